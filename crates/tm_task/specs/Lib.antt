@@ -1,0 +1,4 @@
+pub mod Memory
+pub mod Exec
+pub mod Standing
+pub mod Place
