@@ -6,10 +6,15 @@
 #![tactic(auto)]
 
 mod counts;
+mod mem_shelf;
 mod mem_sink;
+mod named_room;
+mod named_rooms;
+mod refill;
 mod shelf;
 mod sink;
 
+pub use mem_shelf::MemShelf;
 pub use mem_sink::MemSink;
 pub use shelf::{GetFault, PutFault, Shelf};
 pub use sink::{Failed, Sink};
