@@ -1,0 +1,5 @@
+pub mod Counts
+pub mod NamedRooms
+pub mod Gained
+pub mod ShelfState
+pub mod SinkState

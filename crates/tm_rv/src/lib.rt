@@ -1,0 +1,13 @@
+//! The instructions of RV32I: what a word means, and which word means an instruction (The RISC-V
+//! Instruction Set Manual, Volume I: Unprivileged ISA, 20191213, chapter 2, "RV32I Base Integer
+//! Instruction Set, Version 2.1").
+//!
+//! [`decode`] reads a word as an [`Instr`], which names its operation, an [`Op`], and the fields
+//! that the operation's format has.
+#![tactic(auto)]
+
+mod decoder;
+mod instr;
+
+pub use decoder::decode;
+pub use instr::{Instr, Op};
