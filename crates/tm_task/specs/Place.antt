@@ -1,5 +1,5 @@
 -- Where a task stands after some of its own instructions, with its calls answered by a list.
-use Rattle.std.specs.Prelude.{ℕ, zero, suc, ◌+◌, Bool, ◌&&◌, ◌==◌, nat_lt, if◌then◌else◌, List, [], ◌∷◌, ◌++◌, slice_get, Option, Some, None, option_and_then}
+use Rattle.std.specs.Prelude.{ℕ, zero, suc, ◌+◌, ◌&&◌, ◌==◌, nat_lt, if◌then◌else◌, List, [], ◌∷◌, ◌++◌, slice_get, Option, Some, None, option_and_then}
 use Rattle.tm_marker.specs.declared.body.Body.{Body}
 use Rattle.tm_marker.specs.declared.entries.DataEntry.{DataEntry}
 use Rattle.tm_marker.specs.declared.entries.OutputEntry.{OutputEntry}
@@ -29,9 +29,9 @@ after_call entry task p service None = None
 after_call entry task p service (Some d) =
     if d.service == service
     then Some (record {
-        standing = answered entry p.standing d;
-        used = p.used + 1;
-        made = p.made ++ output_of task p.standing.body d
+      standing = answered entry p.standing d;
+      used = p.used + 1;
+      made = p.made ++ output_of task p.standing.body d;
     })
     else None
 

@@ -1,11 +1,11 @@
 -- Where a task stands: its body, its epoch and its count.
-use Rattle.std.specs.Prelude.{◌≡◌, ℕ, ◌+◌, ◌*◌, ◌%◌, ◌^◌, ◌<◌, ◌≤◌, Bool, true, false, ◌||◌, ◌&&◌, ◌==◌, if◌then◌else◌, List, ◌∷◌, length, replicate, slice_index}
+use Rattle.std.specs.Prelude.{◌≡◌, ℕ, ◌+◌, ◌*◌, ◌%◌, ◌^◌, ◌<◌, ◌≤◌, Bool, true, false, ◌||◌, ◌&&◌, ◌==◌, if◌then◌else◌, List, [], ◌∷◌, length, replicate, slice_index}
 use Rattle.tm_marker.specs.declared.body.Body.{Body}
 use Rattle.tm_marker.specs.declared.marker.Marker.{Marker}
 use Rattle.tm_marker.specs.declared.marker.TheConstants.{EPOCH_LENGTH}
 use Rattle.tm_marker.specs.declared.entries.DataEntry.{DataEntry}
 use Rattle.tm_task.specs.Memory.{data_start}
-use Rattle.tm_task.specs.Exec.{with_reg, advanced}
+use Rattle.tm_task.specs.Exec.{reg, with_reg, advanced}
 
 -- a body, its epoch, and the backward transfers since the epoch began
 pub record Standing : Type 0 where
@@ -17,6 +17,15 @@ pub record Standing : Type 0 where
 pub record TaskView : Type 0 where
   pub entry : ℕ
   pub standing : Standing
+
+-- a task of these parts
+abbrev pub task_view : ℕ → Body → ℕ → ℕ → TaskView
+task_view entry body epoch count =
+    record { entry = entry; standing = record { body = body; epoch = epoch; count = count } }
+
+-- the arguments of a call: a0 to a5
+abbrev pub args_of : Body → List ℕ
+args_of b = reg b 10 ∷ reg b 11 ∷ reg b 12 ∷ reg b 13 ∷ reg b 14 ∷ reg b 15 ∷ []
 
 -- the marker of a standing
 abbrev pub marker_of : Standing → Marker
@@ -66,8 +75,8 @@ abbrev pub reply : ℕ → Body → DataEntry → Body
 reply entry b d =
     if is_end d then restarted entry b
     else advanced
-        (with_reg (with_reg (with_reg (with_reg (with_reg b 10 d.status)
-            11 (slice_index d.words 0)) 12 (slice_index d.words 1)) 13 (slice_index d.words 2)) 14 (slice_index d.words 3))
+    (with_reg (with_reg (with_reg (with_reg (with_reg b 10 d.status)
+    11 (slice_index d.words 0)) 12 (slice_index d.words 1)) 13 (slice_index d.words 2)) 14 (slice_index d.words 3))
 
 -- the standing after an answer
 abbrev pub answered : ℕ → Standing → DataEntry → Standing
