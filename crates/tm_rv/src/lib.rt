@@ -8,6 +8,10 @@
 
 mod decoder;
 mod instr;
+mod names;
+mod table;
 
 pub use decoder::decode;
 pub use instr::{Instr, Op};
+pub use names::name;
+pub use table::no_word_in_two_rows;
