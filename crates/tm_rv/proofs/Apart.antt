@@ -1,9 +1,9 @@
 -- No word belongs to two rows: any two rows ask for different bits where both masks look.
-use Rattle.std.proofs.Common.{◌≡◌, ℕ, ◌<◌, zero, suc, refl, sym, ap, ◌∙◌, arith, Bool, true, false, cond, List, [], ◌∷◌, Option, Some, None, bit_and, subst}
+use Rattle.std.proofs.Common.{◌≡◌, ℕ, zero, suc, refl, sym, ap, ◌∙◌, Bool, true, false, List, [], ◌∷◌, Some, bit_and, subst}
 use Rattle.std.proofs.lemmas.Nat.{and_comm, and_assoc}
 use Rattle.std.proofs.lemmas.Bool.{and_parts, both_ways, eqb-true, eq-eqb, not-true, false_from_ne_true, cond-true, cond-false}
 use Rattle.std.proofs.lemmas.Option.{same_Some}
-use Rattle.std.specs.Prelude.{◌==◌, ◌&&◌, not, find, slice_get, IsTrue}
+use Rattle.std.specs.Prelude.{◌==◌, ◌&&◌, not, find, slice_get}
 use Rattle.std.specs.List.{list_all}
 use Rattle.tm_rv.specs.Table.{Row, rows, belongs}
 use Rattle.tm_rv.specs.Laws.{NoWordInTwoRows}
@@ -26,7 +26,7 @@ both_agree w r s in_r in_s =
     let left : bit_and w r.mask ≡ r.bits = eqb-true _ _ in_r in
     let right : bit_and w s.mask ≡ s.bits = eqb-true _ _ in_s in
     let e : bit_and (bit_and w r.mask) s.mask ≡ bit_and (bit_and w s.mask) r.mask =
-        and_assoc s.mask w r.mask ∙ (ap (λ m. bit_and w m) (and_comm r.mask s.mask) ∙ sym (and_assoc r.mask w s.mask)) in
+    and_assoc s.mask w r.mask ∙ (ap (λ m. bit_and w m) (and_comm r.mask s.mask) ∙ sym (and_assoc r.mask w s.mask)) in
     eq-eqb _ _ (ap (λ n. bit_and n s.mask) (sym left) ∙ (e ∙ ap (λ n. bit_and n r.mask) right))
 
 -- a word of a row is of no row that comes earlier
@@ -56,10 +56,10 @@ one_place w [] i j r s apart at_i at_j in_r in_s = cc
 one_place w (x ∷ rs) zero zero r s apart at_i at_j in_r in_s = refl
 one_place w (x ∷ rs) zero (suc j) r s apart at_i at_j in_r in_s =
     absurd (both_ways (belongs w x) (not_earlier w x rs j s (and_parts _ _ apart).0 at_j in_s)
-        (subst (λ (t : Row). belongs w t ≡ true) (sym (same_Some x r at_i)) in_r))
+    (subst (λ (t : Row). belongs w t ≡ true) (sym (same_Some x r at_i)) in_r))
 one_place w (x ∷ rs) (suc i) zero r s apart at_i at_j in_r in_s =
     absurd (both_ways (belongs w x) (not_earlier w x rs i r (and_parts _ _ apart).0 at_i in_r)
-        (subst (λ (t : Row). belongs w t ≡ true) (sym (same_Some x s at_j)) in_s))
+    (subst (λ (t : Row). belongs w t ≡ true) (sym (same_Some x s at_j)) in_s))
 one_place w (x ∷ rs) (suc i) (suc j) r s apart at_i at_j in_r in_s =
     ap suc (one_place w rs i j r s (and_parts _ _ apart).1 at_i at_j in_r in_s)
 

@@ -3,3 +3,4 @@ pub mod Instr
 pub mod ByFields
 pub mod Names
 pub mod Laws
+pub mod Word
