@@ -1,0 +1,21 @@
+//! What the program says of itself.
+
+pub const VERSION: &str = "tm 0.1.0\n";
+
+pub const HELP: &str = "\
+tm records and replays preemptive control software.
+
+    tm trace IMAGE PLAN    prints the whole run of the plan on the image, from boot
+    tm --help              prints this
+    tm --version           prints the version
+
+IMAGE and PLAN are names of files. A name isn't empty and doesn't begin with a dash.
+A status other than 0 is told by one line on standard error.
+
+    0   the text was printed
+    2   the words are of no form above
+    3   a file can't be read
+    9   standard output takes no more bytes
+    11  there is not enough memory
+    12  the first or the second file is not of the form that is read
+";

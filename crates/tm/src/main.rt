@@ -1,0 +1,60 @@
+//! The program `tm`: its words in, text on standard output, a status line on standard error.
+#![tactic(auto)]
+
+mod help;
+
+use std::env;
+use std::io::{self, Write};
+use std::process::ExitCode;
+use tm_io::{FileShelf, OutSink};
+use tm_prog::{Status, tm};
+
+/// The words after the program's name. A word that is no UTF-8 makes them words of no form.
+fn words(rt: &HostRuntime) -> Result<Vec<String>, Status> {
+    let status = |error: io::Error| match error.kind() {
+        io::ErrorKind::OutOfMemory => Status::Memory,
+        _ => Status::Words,
+    };
+    let mut words = Vec::new(rt.alloc());
+    for word in env::args(rt).map_err(status)?.skip(1) {
+        words.push(word).map_err(|_| Status::Memory)?;
+    }
+    Ok(words)
+}
+
+/// What the one word `--help` or `--version` prints.
+fn information(words: &[String]) -> Option<&'static str> {
+    match words {
+        [word] if word.as_str() == "--help" => Some(help::HELP),
+        [word] if word.as_str() == "--version" => Some(help::VERSION),
+        _ => None,
+    }
+}
+
+fn run(rt: &HostRuntime) -> Status {
+    let words = match words(rt) {
+        Ok(words) => words,
+        Err(status) => return status,
+    };
+    if let Some(text) = information(&words) {
+        return match rt.print(text) {
+            Ok(()) => Status::Ok,
+            Err(_) => Status::WriteFault,
+        };
+    }
+    tm(rt.alloc(), &words, &mut FileShelf::new(rt), &mut OutSink::new(rt))
+}
+
+/// Prints the status line; where it can't be made or printed, nothing is.
+fn report(rt: &HostRuntime, status: Status) {
+    let mut line = Vec::new(rt.alloc());
+    if status.line(&mut line).is_ok() {
+        let _ = rt.stderr().write_all(&line);
+    }
+}
+
+fn main(rt: HostRuntime) -> ExitCode {
+    let status = run(&rt);
+    report(&rt, status);
+    ExitCode::from(status.code())
+}
