@@ -1,5 +1,5 @@
 -- Who runs next, what an interrupt does, and how a run ends.
-use Rattle.std.specs.Prelude.{ℕ, ◌+◌, ◌/◌, ◌%◌, ◌^◌, Bool, ◌==◌, if◌then◌else◌, List, [], ◌∷◌, map, zip, fold, position, slice_set, Option, Some, None, unwrap_or, max}
+use Rattle.std.specs.Prelude.{ℕ, ◌+◌, ◌/◌, ◌%◌, ◌^◌, Bool, ◌==◌, if◌then◌else◌, List, [], ◌∷◌, fold, position, slice_set, Option, None, unwrap_or, max}
 use Rattle.tm_kernel.specs.declared.spec.Action.{Action}
 use Rattle.tm_kernel.specs.declared.spec.Action.TheVariants.{Nothing, Tick, Activate, Event}
 use Rattle.tm_kernel.specs.declared.spec.TaskSpec.{TaskSpec}

@@ -1,5 +1,5 @@
 -- What a service call does and answers, one row of the table of services for each.
-use Rattle.std.specs.Prelude.{ℕ, Bool, ◌==◌, if◌then◌else◌, List, [], ◌∷◌, slice_get, slice_set, slice_index, Option, Some, None}
+use Rattle.std.specs.Prelude.{ℕ, ◌==◌, if◌then◌else◌, List, [], ◌∷◌, slice_get, slice_set, slice_index, Option, Some, None}
 use Rattle.tm_marker.specs.declared.entries.DataEntry.{DataEntry}
 use Rattle.tm_marker.specs.declared.entries.OutputEntry.{OutputEntry}
 use Rattle.tm_marker.specs.declared.entries.Kind.TheVariants.{Ends}
@@ -51,7 +51,7 @@ terminate_task k caller = record {
   kernel = record k { states = slice_set k.states caller Suspended; running = nobody };
   entry = entry_of 2 E_OK;
   output = None;
-  need = Leaves Ends
+  need = Leaves Ends;
 }
 
 -- the answer to a call: every number without a service is refused

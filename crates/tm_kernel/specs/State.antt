@@ -36,7 +36,7 @@ booted spec = record {
   states = map (λ t. boot_state t.auto) spec.tasks;
   ports = replicate 4 0;
   running = nobody;
-  ended = 0
+  ended = 0;
 }
 
 -- the task is the running one

@@ -11,4 +11,6 @@ mod status;
 
 pub use kernel::{Answer, Kernel, Need, TaskState};
 pub use spec::{Action, KernelSpec, LINES, TaskSpec};
-pub use status::{E_OK, E_OS_ACCESS, E_OS_ID, E_OS_LIMIT, E_OS_NOFUNC, E_OS_RESOURCE, E_OS_STATE, E_OS_VALUE};
+pub use status::{
+    E_OK, E_OS_ACCESS, E_OS_ID, E_OS_LIMIT, E_OS_NOFUNC, E_OS_RESOURCE, E_OS_STATE, E_OS_VALUE,
+};
