@@ -6,6 +6,7 @@
 #![tactic(auto)]
 
 mod kernel;
+pub mod laws;
 mod spec;
 mod status;
 
