@@ -9,6 +9,7 @@
 mod bits;
 mod decoder;
 mod encoder;
+mod formats;
 mod instr;
 mod names;
 mod table;
