@@ -1,0 +1,27 @@
+//! A call of `tm` over an image and a plan in memory.
+
+use std::alloc::{AllocError, Global};
+use tm_io::{MemShelf, MemSink};
+use tm_prog::{Status, tm};
+
+/// The words of a call.
+pub fn words(alloc: Global, words: &[&str]) -> Result<Vec<String>, AllocError> {
+    let mut all = Vec::new(alloc);
+    for word in words {
+        all.push(String::from_str(alloc, word)?)?;
+    }
+    Ok(all)
+}
+
+/// A shelf with the image as `i` and the plan as `p`, whose calls with these numbers fail.
+pub fn shelf(alloc: Global, image: &[u8], plan: &[u8], fail: &[u64]) -> Result<MemShelf, AllocError> {
+    let mut shelf = MemShelf::new(alloc, fail)?;
+    shelf.add("i", image)?;
+    shelf.add("p", plan)?;
+    Ok(shelf)
+}
+
+/// `trace i p` on the shelf, into the sink.
+pub fn trace(alloc: Global, shelf: &mut MemShelf, sink: &mut MemSink) -> Result<Status, AllocError> {
+    Ok(tm(alloc, &words(alloc, &["trace", "i", "p"])?, shelf, sink))
+}

@@ -1,0 +1,104 @@
+//! Refusals, and calls that are made to fail.
+
+use crate::calls::{shelf, trace, words};
+use std::test::Fail;
+use tm_io::{MemShelf, MemSink};
+use tm_prog::{Status, tm};
+
+const IMAGE: &[u8] = b"tmi 1\ntask 0 basic 1 auto 0 1\ntext 0 00200893 00000073\n";
+
+const PLAN: &[u8] = b"tmplan 1\nslice 2 0\n";
+
+/// The text of the plan on the image has this many bytes.
+const LENGTH: usize = 175;
+
+#[test]
+fn words_of_no_form_are_refused(rt: HostRuntime) -> Result<(), Fail> {
+    let alloc = rt.alloc();
+    let cases: [&[&str]; 8] = [
+        &[],
+        &["trace"],
+        &["trace", "a"],
+        &["trace", "a", "b", "c"],
+        &["trace", "-", "b"],
+        &["trace", "a", "--"],
+        &["trace", "", "b"],
+        &["--help"],
+    ];
+    for case in cases {
+        let mut shelf = shelf(alloc, IMAGE, PLAN, &[])?;
+        let mut sink = MemSink::new(alloc, 64, &[])?;
+        let status = tm(alloc, &words(alloc, case)?, &mut shelf, &mut sink);
+        assert_eq!(rt; status, Status::Words, "{case:?}");
+        assert!(rt; sink.bytes().is_empty());
+    }
+    Ok(())
+}
+
+#[test]
+fn files_that_are_none_are_refused(rt: HostRuntime) -> Result<(), Fail> {
+    let alloc = rt.alloc();
+    let long = vec![in alloc; b'\n'; 8 * 1024 * 1024 + 1]?;
+    let cases: [(&[u8], &[u8], Status); 6] = [
+        (b"", PLAN, Status::NotBuilt(1)),
+        (PLAN, IMAGE, Status::NotBuilt(1)),
+        (IMAGE, IMAGE, Status::NotBuilt(2)),
+        (IMAGE, b"tmplan 1\nslice 1048577 0\n", Status::NotBuilt(2)),
+        (IMAGE, b"tmplan 1\nslice 2 0", Status::NotBuilt(2)),
+        (&long, PLAN, Status::NotBuilt(1)),
+    ];
+    for (image, plan, wanted) in cases {
+        let mut shelf = shelf(alloc, image, plan, &[])?;
+        let mut sink = MemSink::new(alloc, 64, &[])?;
+        assert_eq!(rt; trace(alloc, &mut shelf, &mut sink)?, wanted);
+        assert!(rt; sink.bytes().is_empty());
+    }
+    Ok(())
+}
+
+#[test]
+fn files_that_are_not_there_are_read_faults(rt: HostRuntime) -> Result<(), Fail> {
+    let alloc = rt.alloc();
+    let mut shelf = MemShelf::new(alloc, &[])?;
+    let mut sink = MemSink::new(alloc, 64, &[])?;
+    assert_eq!(rt; trace(alloc, &mut shelf, &mut sink)?, Status::ReadFault);
+    shelf.add("i", IMAGE)?;
+    assert_eq!(rt; trace(alloc, &mut shelf, &mut sink)?, Status::ReadFault);
+    shelf.add("p", PLAN)?;
+    sink.room(LENGTH)?;
+    assert_eq!(rt; trace(alloc, &mut shelf, &mut sink)?, Status::Ok);
+    assert_eq!(rt; sink.bytes().len(), LENGTH);
+    Ok(())
+}
+
+#[test]
+fn a_call_that_fails_is_told_and_leaves_a_beginning(rt: HostRuntime) -> Result<(), Fail> {
+    let alloc = rt.alloc();
+    let cases: [(&[u64], &[u64], usize, Status, usize); 6] = [
+        (&[1], &[], 64, Status::ReadFault, 0),
+        (&[2], &[], 64, Status::ReadFault, 0),
+        (&[], &[1], 64, Status::WriteFault, 0),
+        (&[], &[3], 64, Status::WriteFault, 128),
+        (&[], &[3], LENGTH, Status::Ok, LENGTH),
+        (&[3], &[4], 64, Status::Ok, LENGTH),
+    ];
+    for (gets, writes, most, wanted, length) in cases {
+        let mut shelf = shelf(alloc, IMAGE, PLAN, gets)?;
+        let mut sink = MemSink::new(alloc, most, writes)?;
+        sink.room(LENGTH)?;
+        assert_eq!(rt; trace(alloc, &mut shelf, &mut sink)?, wanted);
+        assert_eq!(rt; sink.bytes().len(), length);
+    }
+    Ok(())
+}
+
+#[test]
+fn a_sink_without_room_is_a_write_fault(rt: HostRuntime) -> Result<(), Fail> {
+    let alloc = rt.alloc();
+    let mut shelf = shelf(alloc, IMAGE, PLAN, &[])?;
+    let mut sink = MemSink::new(alloc, 64, &[])?;
+    sink.room(LENGTH - 1)?;
+    assert_eq!(rt; trace(alloc, &mut shelf, &mut sink)?, Status::WriteFault);
+    assert!(rt; sink.bytes().is_empty());
+    Ok(())
+}

@@ -1,0 +1,10 @@
+//! The tests that cross crates: whole texts and refusals of the call `tm`, over a shelf and a sink in
+//! memory. Expected texts were worked by hand from the tables of instructions and services.
+#![tactic(auto)]
+
+#[cfg(test)]
+mod calls;
+#[cfg(test)]
+mod faults;
+#[cfg(test)]
+mod texts;
