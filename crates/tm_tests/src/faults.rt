@@ -10,7 +10,7 @@ const IMAGE: &[u8] = b"tmi 1\ntask 0 basic 1 auto 0 1\ntext 0 00200893 00000073\
 const PLAN: &[u8] = b"tmplan 1\nslice 2 0\n";
 
 /// The text of the plan on the image has this many bytes.
-const LENGTH: usize = 175;
+const LENGTH: usize = 172;
 
 #[test]
 fn words_of_no_form_are_refused(rt: HostRuntime) -> Result<(), Fail> {
