@@ -4,7 +4,7 @@ use Rattle.tm_marker.specs.declared.entries.DataEntry.{DataEntry}
 use Rattle.tm_marker.specs.declared.entries.OutputEntry.{OutputEntry}
 use Rattle.tm_marker.specs.declared.entries.Kind.{Kind}
 use Rattle.tm_marker.specs.declared.entries.Kind.TheVariants.{Preempted, Waits, Ends, Fault, Shutdown, Idle}
-use Rattle.tm_task.specs.declared.task.Cause.{Cause}
+use Rattle.tm_task.specs.declared.outcome.Cause.{Cause}
 use Rattle.tm_task.specs.Exec.{Faults, Calls, Goes, exec}
 use Rattle.tm_task.specs.Standing.{reply}
 use Rattle.tm_kernel.specs.State.{nobody}
@@ -86,5 +86,5 @@ pub record Follows (image : ImageView) (h : History) (m : Moment) : Type 0 where
 
 -- a run: boot, or a run and a moment that follows it
 pub data IsRun (image : ImageView) : History → Type 0 where
-  pub Boots : IsRun image []
-  pub GoesOn : {h : History} {m : Moment} → IsRun image h → Follows image h m → IsRun image (m ∷ h)
+  Boots : IsRun image []
+  GoesOn : {h : History} {m : Moment} → IsRun image h → Follows image h m → IsRun image (m ∷ h)

@@ -5,3 +5,4 @@ pub mod Controls
 pub mod Telling
 pub mod Follows
 pub mod Machine
+pub mod Examples

@@ -2,7 +2,7 @@
 use Rattle.std.specs.Prelude.{ℕ, zero, suc, Bool, ◌&&◌, ◌||◌, ◌==◌, nat_le, nat_lt, if◌then◌else◌, List, [], ◌∷◌, ◌++◌, length, slice_get, replicate, Option, Some, None, option_to_list}
 use Rattle.tm_marker.specs.declared.entries.OutputEntry.{OutputEntry}
 use Rattle.tm_marker.specs.declared.entries.Slice.{Slice}
-use Rattle.tm_task.specs.Step.{cause_number}
+use Rattle.tm_task.specs.Cause.{cause_number}
 use Rattle.tm_kernel.specs.declared.kernel.TaskState.{TaskState}
 use Rattle.tm_kernel.specs.State.{nobody, state_number}
 use Rattle.tm_spelling.specs.Story.{View, Leave, Block, Last, Story, changes, nonzero, spelled}
