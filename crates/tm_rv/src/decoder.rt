@@ -3,8 +3,9 @@
 ghost use Rattle.std.specs.Prelude.{◌≡◌, ◌+◌, ◌-◌, ◌*◌, ◌/◌, ◌%◌, ◌^◌, ◌<◌, ◌≤◌, IfSome};
 ghost use Rattle.tm_rv.specs.Table.{op_of, row_for, IType, SType, BType, UType, JType, ShiftType};
 ghost use Rattle.tm_rv.specs.ByFields.{op_by};
-ghost use Rattle.tm_rv.specs.Instr.{field, sign_extend, imm_of, split, instr_of, IsRegister};
+ghost use Rattle.tm_rv.specs.Instr.{field, sign_extend, imm_of, split, instr_of, IsRegister, IsEncodable};
 
+use crate::bits::field;
 use crate::{Instr, Op};
 
 /// The instruction that a word is, or `None` where no row of the table matches (chapter 2; the
@@ -14,6 +15,7 @@ use crate::{Instr, Op};
 pub fn decode(word: u32) -> Option<Instr>
     ensures table { result ≡ instr_of word }
     ensures registers { IfSome result (λ i. IsRegister i.rd × IsRegister i.rs1 × IsRegister i.rs2) }
+    ensures encodable { IfSome result IsEncodable }
     ensures immediate { IfSome result (λ i. i.imm < 2 ^ 32) }
 {
     let op = find_op(word)?;
@@ -240,19 +242,6 @@ fn register(word: u32, low: u32) -> u8
     ensures small { IsRegister result }
 {
     field(word, low + 4, low) as u8
-}
-
-/// The bits from `high` down to `low`.
-#[inline]
-#[tactic(auto, using(crate::proofs::Masks::masked))]
-fn field(word: u32, high: u32, low: u32) -> u32
-    requires ordered { low ≤ high }
-    requires within { high < 32 }
-    requires partial { high < 31 + low }
-    ensures value { result ≡ field word high low }
-    ensures small { result < 2 ^ (high + 1 - low) }
-{
-    (word >> low) & ((1 << (high + 1 - low)) - 1)
 }
 
 /// A number of so many bits, of which the first is the sign, as one of 32 bits.

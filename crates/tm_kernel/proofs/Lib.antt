@@ -1,0 +1,4 @@
+pub mod Scan
+pub mod Keeping
+pub mod Picking
+pub mod Raising

@@ -1,0 +1,4 @@
+pub mod Spec
+pub mod State
+pub mod Service
+pub mod Schedule
