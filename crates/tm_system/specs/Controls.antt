@@ -30,7 +30,7 @@ switch_at image m h =
       kind = kind_by from m.leaves;
       from_at = marker_at image (m ∷ h) from;
       to = to;
-      to_at = marker_at image (m ∷ h) to
+      to_at = marker_at image (m ∷ h) to;
     }
 
 -- the control entries, oldest first
@@ -77,8 +77,8 @@ checkpoints image task [] =
 checkpoints image task (m ∷ h) =
     if is_start task m.deed (backs task h)
     then checkpoints image task h ++ (record {
-        body = body_at image (m ∷ h) task;
-        data_number = length (entries task (m ∷ h));
-        control_number = length (controls image h)
+      body = body_at image (m ∷ h) task;
+      data_number = length (entries task (m ∷ h));
+      control_number = length (controls image h);
     }) ∷ []
     else checkpoints image task h

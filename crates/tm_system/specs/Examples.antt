@@ -18,7 +18,7 @@ use Rattle.tm_system.specs.Controls.{controls, entries}
 abbrev pub image_of_texts : List TaskSpec → List (List ℕ) → List Action → ImageView
 image_of_texts tasks texts lines = record {
   spec = record { tasks = tasks; users = []; alarms = []; boxes = []; lines = lines };
-  loads = map (λ text. record { entry = 0; text = text; words = 0 ∷ [] }) texts
+  loads = map (λ text. record { entry = 0; text = text; words = 0 ∷ [] }) texts;
 }
 
 -- a basic task of this priority

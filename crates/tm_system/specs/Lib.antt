@@ -5,4 +5,5 @@ pub mod Controls
 pub mod Telling
 pub mod Follows
 pub mod Machine
+pub mod Parts
 pub mod Examples

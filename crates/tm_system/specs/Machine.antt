@@ -8,7 +8,7 @@ use Rattle.tm_kernel.specs.State.{KernelState, IsKernel, nobody}
 use Rattle.tm_image.specs.Image.{ImageView, entry_of}
 use Rattle.tm_system.specs.declared.machine.Told.{Told}
 use Rattle.tm_system.specs.History.{Deed, Arrives, Steps, Answers, Faulted, Moment, History}
-use Rattle.tm_system.specs.Run.{now}
+use Rattle.tm_system.specs.Run.{now, arrival}
 use Rattle.tm_system.specs.Marks.{is_start, backs, standing_at}
 use Rattle.tm_system.specs.Controls.{is_switch, switch_at, output_of}
 use Rattle.tm_system.specs.Telling.{cause_of}
@@ -58,7 +58,7 @@ told_of image m h = record {
   checkpoint = checkpoint_told m.deed h;
   switch = if is_switch image m h then Some (switch_at image m h) else None;
   fault = cause_of m.deed;
-  idle = m.after.kernel.running == nobody
+  idle = m.after.kernel.running == nobody;
 }
 
 -- what is told where nothing was done
@@ -69,5 +69,10 @@ told_nothing image h = record {
   checkpoint = None;
   switch = None;
   fault = 0;
-  idle = (now image h).kernel.running == nobody
+  idle = (now image h).kernel.running == nobody;
 }
+
+-- what is told of an arrival: nothing was done where the run has ended
+abbrev pub arrival_told : ImageView → ℕ → List ℕ → History → Told
+arrival_told image mask ports h =
+    if (now image h).kernel.ended == 0 then told_of image (arrival (now image h) mask ports) h else told_nothing image h

@@ -40,7 +40,7 @@ abbrev pub arrival : Whole → ℕ → List ℕ → Moment
 arrival w mask ports = record {
   deed = Arrives mask ports;
   leaves = None;
-  after = record w { kernel = rescheduled (arrived w.kernel mask ports) }
+  after = record w { kernel = rescheduled (arrived w.kernel mask ports) };
 }
 
 -- why the caller of a service leaves the processor, where it does
@@ -53,7 +53,7 @@ abbrev pub call_moment : ℕ → Whole → ℕ → Body → Answered → Moment
 call_moment entry w task b a = record {
   deed = Answers task a.entry a.output;
   leaves = left_by a.need;
-  after = record { bodies = slice_set w.bodies task (reply entry b a.entry); kernel = rescheduled a.kernel }
+  after = record { bodies = slice_set w.bodies task (reply entry b a.entry); kernel = rescheduled a.kernel };
 }
 
 -- one instruction of a task, by what it does to the task's body; a fault ends the run
@@ -61,13 +61,13 @@ abbrev pub moment_by : ℕ → Whole → ℕ → Body → Exec → Moment
 moment_by entry w task b (Goes next back) = record {
   deed = Steps task back;
   leaves = None;
-  after = record w { bodies = slice_set w.bodies task next }
+  after = record w { bodies = slice_set w.bodies task next };
 }
 moment_by entry w task b (Calls service) = call_moment entry w task b (answer w.kernel task service (args_of b))
 moment_by entry w task b (Faults cause) = record {
   deed = Faulted task cause;
   leaves = Some Fault;
-  after = record w { kernel = stopped w.kernel true }
+  after = record w { kernel = stopped w.kernel true };
 }
 
 -- the moment of the running task's next instruction

@@ -55,7 +55,7 @@ view_at image h task before = record {
   task = task;
   at = marker_at image h task;
   regs = (body_at image h task).regs;
-  changed = changes before (body_at image h task).words
+  changed = changes before (body_at image h task).words;
 }
 
 -- how the running task left at a moment, in the text from point p
@@ -64,9 +64,9 @@ leave_at image p m h =
     let task = running_at image h in
     if task == nobody then None
     else Some (record {
-        cause = cause_of m.deed;
-        view = view_at image (m ∷ h) task (printed image p task h);
-        outputs = pending image task h ++ made task m.deed
+      cause = cause_of m.deed;
+      view = view_at image (m ∷ h) task (printed image p task h);
+      outputs = pending image task h ++ made task m.deed;
     })
 
 -- the control entry of a moment, with its number from 1, in the text from point p
@@ -74,7 +74,7 @@ abbrev pub block_at : ImageView → ℕ → Moment → History → Block
 block_at image p m h = record {
   seq = length (controls image (m ∷ h));
   switch = switch_at image m h;
-  leave = leave_at image p m h
+  leave = leave_at image p m h;
 }
 
 -- the control entries after point p, oldest first
@@ -101,7 +101,7 @@ start_at image h task = record {
   task = task;
   at = marker_at image h task;
   regs = (body_at image h task).regs;
-  changed = nonzero (body_at image h task).words
+  changed = nonzero (body_at image h task).words;
 }
 
 -- a task at the end, in the text from point p; the outputs since the last entry go with the running task
@@ -109,7 +109,7 @@ abbrev pub last_at : ImageView → ℕ → History → ℕ → Last
 last_at image p h task = record {
   state = number_of (slice_get (now image h).kernel.states task);
   view = view_at image h task (printed image p task h);
-  outputs = if running_at image h == task then pending image task h else []
+  outputs = if running_at image h == task then pending image task h else [];
 }
 
 -- what the text from point p tells of a history
@@ -123,7 +123,7 @@ story image p h =
       blocks = blocks image p h;
       last_running = running_at image h;
       ended = (now image h).kernel.ended;
-      lasts = below tasks (last_at image p h)
+      lasts = below tasks (last_at image p h);
     }
 
 -- the text of the run of a script, from point p

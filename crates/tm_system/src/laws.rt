@@ -1,4 +1,5 @@
-//! Runs of small images, held to what they must leave.
+//! Runs of small images, held to what they must leave. The function does nothing: its clauses are
+//! the theorems.
 
 ghost use Rattle.tm_system.specs.Examples.{EndingLeaves, PreemptingLeaves};
 
@@ -6,5 +7,4 @@ ghost use Rattle.tm_system.specs.Examples.{EndingLeaves, PreemptingLeaves};
 pub fn examples()
     ensures ending { EndingLeaves }
     ensures preempting { PreemptingLeaves }
-{
-}
+{}
