@@ -4,11 +4,11 @@ use Rattle.std.proofs.lemmas.Bool.{and_parts, eqb-true, cases_Bool, cond-true, c
 use Rattle.std.proofs.lemmas.Bool.Decides.{nat_tests}
 use Rattle.std.proofs.lemmas.Option.{same_Some}
 use Rattle.std.specs.Prelude.{◌==◌, ◌&&◌, find, map}
-use Rattle.std.specs.Option.{option_map}
+use Rattle.std.specs.Option.{option_map, IfSome}
 use Rattle.tm_rv.specs.declared.instr.Op.{Op}
 use Rattle.tm_rv.specs.declared.instr.Instr.{Instr}
 use Rattle.tm_rv.specs.Table.{Format, RType, IType, SType, BType, UType, JType, ShiftType, WordType, Row, row_for, operations, belongs, op_of}
-use Rattle.tm_rv.specs.Instr.{field, sign_extend, split, instr_of, FitsFormat, IsEncodable}
+use Rattle.tm_rv.specs.Instr.{IsRegister, IsSignExtended, field, sign_extend, split, instr_of, FitsFormat, IsEncodable}
 use Rattle.tm_rv.specs.Word.{placed, joined, word_of}
 use Rattle.tm_rv.proofs.Masks.{opcode_left, funct3_left, funct7_left, all_left}
 use Rattle.tm_rv.proofs.Rows.{is_regular, row_is_regular, listed}
@@ -166,3 +166,40 @@ from_op w (Some op) i small is_op h =
 pub is_decoded : (w : ℕ) (i : Instr) → w < 2 ^ 32 → instr_of w ≡ Some i → IsDecoded w i
 unfolding instr_of
 is_decoded w i small h = from_op w (op_of w) i small refl h
+
+-- what a word is decoded to is encodable
+pub encodable_from : (w : ℕ) (o : Option Instr) → w < 2 ^ 32 → o ≡ instr_of w → IfSome o IsEncodable
+encodable_from w None small h = tt
+encodable_from w (Some i) small h = (is_decoded w i small (sym h)).fits
+
+-- an encodable instruction's fields are in the range of their types, and registers below 32
+pub record HasSmallFields (i : Instr) : Type 0 where
+  pub registers : IsRegister i.rd × IsRegister i.rs1 × IsRegister i.rs2
+  pub immediate : i.imm < 2 ^ 32
+
+small_12 : (imm : ℕ) → IsSignExtended 12 imm → imm < 2 ^ 32
+small_12 imm h = grind (arith, nat_tests)
+
+small_13 : (imm : ℕ) → IsSignExtended 13 imm → imm < 2 ^ 32
+small_13 imm h = grind (arith, nat_tests)
+
+small_21 : (imm : ℕ) → IsSignExtended 21 imm → imm < 2 ^ 32
+small_21 imm h = grind (arith, nat_tests)
+
+small_fields : (fmt : Format) (i : Instr) → FitsFormat fmt i → HasSmallFields i
+small_fields RType i fits = record { registers = (fits.0, fits.1, fits.2); immediate = omega arith }
+small_fields IType i fits = record { registers = (fits.0, fits.1, omega arith); immediate = small_12 i.imm fits.3 }
+small_fields SType i fits = record { registers = (omega arith, fits.1, fits.2); immediate = small_12 i.imm fits.3 }
+small_fields BType i fits = record { registers = (omega arith, fits.1, fits.2); immediate = small_13 i.imm fits.3 }
+small_fields UType i fits = record { registers = (fits.0, omega arith, omega arith); immediate = fits.3 }
+small_fields JType i fits = record { registers = (fits.0, omega arith, omega arith); immediate = small_21 i.imm fits.3 }
+small_fields ShiftType i fits = record { registers = (fits.0, fits.1, omega arith); immediate = omega arith }
+small_fields WordType i fits = record { registers = (omega arith, omega arith, omega arith); immediate = omega arith }
+
+pub registers_from : (o : Option Instr) → IfSome o IsEncodable → IfSome o (λ i. IsRegister i.rd × IsRegister i.rs1 × IsRegister i.rs2)
+registers_from None h = tt
+registers_from (Some i) h = (small_fields _ i h).registers
+
+pub immediate_from : (o : Option Instr) → IfSome o IsEncodable → IfSome o (λ i. i.imm < 2 ^ 32)
+immediate_from None h = tt
+immediate_from (Some i) h = (small_fields _ i h).immediate

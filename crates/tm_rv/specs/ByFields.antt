@@ -2,7 +2,9 @@
 use Rattle.std.specs.Prelude.{ℕ, ◌/◌, ◌%◌, ◌^◌, Option, Bool, ◌==◌, ◌&&◌, find}
 use Rattle.std.specs.Option.{option_map}
 use Rattle.tm_rv.specs.declared.instr.Op.{Op}
-use Rattle.tm_rv.specs.Table.{Format, RType, IType, SType, BType, UType, JType, ShiftType, WordType, rows}
+use Rattle.tm_rv.specs.Table.{Format, RType, IType, SType, BType, UType, JType, ShiftType, WordType, rows, row_for}
+use Rattle.tm_rv.specs.Instr.{split}
+use Rattle.tm_rv.specs.declared.instr.Instr.{Instr}
 
 abbrev pub has_opcode : ℕ → ℕ → Bool
 has_opcode bits opcode = opcode == bits % 2 ^ 7
@@ -28,3 +30,7 @@ fields_match WordType bits opcode funct3 funct7 word = has_opcode bits opcode &&
 abbrev pub op_by : ℕ → ℕ → ℕ → ℕ → Option Op
 op_by opcode funct3 funct7 word =
     option_map (λ r. r.op) (find (λ r. fields_match r.format r.bits opcode funct3 funct7 word) rows)
+
+-- the instruction of a word with these fields
+abbrev pub instr_by : ℕ → ℕ → ℕ → ℕ → Option Instr
+instr_by opcode funct3 funct7 word = option_map (λ op. split (row_for op).format op word) (op_by opcode funct3 funct7 word)
