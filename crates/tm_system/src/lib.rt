@@ -10,3 +10,6 @@ mod machine;
 
 pub use laws::examples;
 pub use machine::{Machine, Told};
+
+#[cfg(test)]
+mod tests;
