@@ -1,5 +1,5 @@
 -- What an image is, and which text is the small form of one.
-use Rattle.std.specs.Prelude.{◌≡◌, ℕ, ◌+◌, ◌*◌, ◌%◌, ◌<◌, ◌≤◌, Bool, true, false, ◌&&◌, not, List, [], ◌∷◌, ◌++◌, length, drop, replicate, slice_get, slice_set, ◌==◌, nat_lt, nat_le, codes, if◌then◌else◌, Option, Some, None, unwrap_or, All}
+use Rattle.std.specs.Prelude.{◌≡◌, ℕ, ◌*◌, ◌%◌, ◌<◌, ◌≤◌, Bool, true, false, ◌&&◌, not, List, [], ◌∷◌, ◌++◌, length, drop, replicate, slice_get, slice_set, ◌==◌, nat_lt, nat_le, codes, Option, Some, None, unwrap_or, All}
 use Rattle.std.specs.Bool.{then_some}
 use Rattle.std.specs.List.{list_all, list_any}
 use Rattle.tm_kernel.specs.declared.spec.Action.{Action}
