@@ -164,3 +164,80 @@ impl Shelf for MemShelf {
         Ok(())
     }
 }
+
+#[cfg(test)]
+mod tests {
+    use super::*;
+
+    #[test]
+    fn gets_within_the_limit(rt: HostRuntime) -> Result<(), Memory> {
+        let mut shelf = MemShelf::new(rt.alloc(), &[])?;
+        shelf.add("a", b"xyz")?;
+        let mut into = Vec::from_slice(rt.alloc(), b"before")?;
+        assert_eq!(rt; shelf.get("a", 2, &mut into), Err(GetFault::TooLong));
+        assert_eq!(rt; shelf.get("b", 9, &mut into), Err(GetFault::Failed));
+        assert_eq!(rt; into.as_slice(), b"before".as_slice());
+        assert_eq!(rt; shelf.get("a", 3, &mut into), Ok(()));
+        assert_eq!(rt; into.as_slice(), b"xyz".as_slice());
+        Ok(())
+    }
+
+    #[test]
+    fn puts_within_the_room(rt: HostRuntime) -> Result<(), Memory> {
+        let mut shelf = MemShelf::new(rt.alloc(), &[])?;
+        shelf.add("a", b"xyz")?;
+        assert_eq!(rt; shelf.put("b", b""), Err(PutFault::Failed));
+        shelf.room("b", 2)?;
+        shelf.room("a", 2)?;
+        assert_eq!(rt; shelf.content("b"), None);
+        assert_eq!(rt; shelf.put("b", b"123"), Err(PutFault::Failed));
+        assert_eq!(rt; shelf.content("b"), None);
+        assert_eq!(rt; shelf.put("b", b""), Ok(()));
+        assert_eq!(rt; shelf.content("b"), Some(b"".as_slice()));
+        assert_eq!(rt; shelf.put("b", b"12"), Ok(()));
+        assert_eq!(rt; shelf.put("a", b"uvw"), Ok(()));
+        assert_eq!(rt; shelf.put("a", b"uvwx"), Err(PutFault::Failed));
+        shelf.add("b", b"4567")?;
+        assert_eq!(rt; shelf.content("a"), Some(b"uvw".as_slice()));
+        assert_eq!(rt; shelf.content("b"), Some(b"4567".as_slice()));
+        Ok(())
+    }
+
+    #[test]
+    fn fails_the_calls_of_the_listed_numbers(rt: HostRuntime) -> Result<(), Memory> {
+        let mut shelf = MemShelf::new(rt.alloc(), &[1, 4])?;
+        shelf.add("a", b"x")?;
+        let mut into = Vec::new(rt.alloc());
+        assert_eq!(rt; shelf.get("a", 9, &mut into), Err(GetFault::Failed));
+        assert_eq!(rt; shelf.get("a", 9, &mut into), Ok(()));
+        assert_eq!(rt; shelf.put("a", b"y"), Ok(()));
+        assert_eq!(rt; shelf.put("a", b"z"), Err(PutFault::Failed));
+        assert_eq!(rt; shelf.put("a", b"z"), Ok(()));
+        assert_eq!(rt; shelf.content("a"), Some(b"z".as_slice()));
+        Ok(())
+    }
+
+    // Run with each allocation failing in turn.
+    #[test]
+    fn want_of_memory_leaves_all(rt: HostRuntime) -> Result<(), Memory> {
+        let mut shelf = MemShelf::new(rt.alloc(), &[])?;
+        shelf.add("a", b"x")?;
+        let mut into = Vec::new(rt.alloc());
+        match shelf.add("a", b"longer") {
+            Ok(()) => assert_eq!(rt; shelf.content("a"), Some(b"longer".as_slice())),
+            Err(_) => assert_eq!(rt; shelf.content("a"), Some(b"x".as_slice())),
+        }
+        match shelf.add("b", b"y") {
+            Ok(()) => assert_eq!(rt; shelf.content("b"), Some(b"y".as_slice())),
+            Err(_) => assert_eq!(rt; shelf.content("b"), None),
+        }
+        if shelf.room("c", 5).is_err() {
+            assert_eq!(rt; shelf.put("c", b"z"), Err(PutFault::Failed));
+        }
+        match shelf.get("a", 9, &mut into) {
+            Ok(()) => assert_eq!(rt; Some(into.as_slice()), shelf.content("a")),
+            Err(fault) => assert_eq!(rt; fault, GetFault::Memory),
+        }
+        Ok(())
+    }
+}
