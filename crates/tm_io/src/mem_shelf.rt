@@ -185,21 +185,27 @@ mod tests {
     #[test]
     fn puts_within_the_room(rt: HostRuntime) -> Result<(), Memory> {
         let mut shelf = MemShelf::new(rt.alloc(), &[])?;
-        shelf.add("a", b"xyz")?;
-        assert_eq!(rt; shelf.put("b", b""), Err(PutFault::Failed));
-        shelf.room("b", 2)?;
+        assert_eq!(rt; shelf.put("a", b""), Err(PutFault::Failed));
         shelf.room("a", 2)?;
-        assert_eq!(rt; shelf.content("b"), None);
-        assert_eq!(rt; shelf.put("b", b"123"), Err(PutFault::Failed));
-        assert_eq!(rt; shelf.content("b"), None);
-        assert_eq!(rt; shelf.put("b", b""), Ok(()));
-        assert_eq!(rt; shelf.content("b"), Some(b"".as_slice()));
-        assert_eq!(rt; shelf.put("b", b"12"), Ok(()));
-        assert_eq!(rt; shelf.put("a", b"uvw"), Ok(()));
+        assert_eq!(rt; shelf.put("a", b"123"), Err(PutFault::Failed));
+        assert_eq!(rt; shelf.content("a"), None);
+        assert_eq!(rt; shelf.put("a", b"12"), Ok(()));
+        assert_eq!(rt; shelf.put("a", b""), Ok(()));
+        assert_eq!(rt; shelf.content("a"), Some(b"".as_slice()));
+        Ok(())
+    }
+
+    #[test]
+    fn keeps_the_greater_room(rt: HostRuntime) -> Result<(), Memory> {
+        let mut shelf = MemShelf::new(rt.alloc(), &[])?;
+        shelf.add("a", b"xyz")?;
+        shelf.add("b", b"1")?;
+        shelf.add("a", b"u")?;
+        shelf.room("a", 2)?;
         assert_eq!(rt; shelf.put("a", b"uvwx"), Err(PutFault::Failed));
-        shelf.add("b", b"4567")?;
+        assert_eq!(rt; shelf.put("a", b"uvw"), Ok(()));
         assert_eq!(rt; shelf.content("a"), Some(b"uvw".as_slice()));
-        assert_eq!(rt; shelf.content("b"), Some(b"4567".as_slice()));
+        assert_eq!(rt; shelf.content("b"), Some(b"1".as_slice()));
         Ok(())
     }
 
