@@ -3,4 +3,5 @@ pub mod Moments
 pub mod Turning
 pub mod Calling
 pub mod Stepping
+pub mod Adding
 pub mod Booting

@@ -8,7 +8,7 @@
 mod laws;
 mod machine;
 
-pub use laws::examples;
+pub use laws::{examples, turns_add_up};
 pub use machine::{Machine, Told};
 
 #[cfg(test)]
