@@ -1,7 +1,7 @@
 -- What every line of an image keeps, and with it every image.
-use Rattle.std.proofs.Common.{◌≡◌, ◌≢◌, ℕ, zero, suc, ◌+◌, ◌*◌, ◌%◌, ◌<◌, ◌≤◌, Bool, true, false, not, ◌&&◌, ◌||◌, List, [], ◌∷◌, ◌++◌, length, replicate, Option, Some, None, refl, sym, ◌∙◌, ap, subst, arith, rules, All, AllPairs, slice_get, get_or, set, eqb, ltb, leb, length-append}
+use Rattle.std.proofs.Common.{◌≡◌, ◌≢◌, ℕ, zero, suc, ◌%◌, ◌<◌, ◌≤◌, Bool, true, false, not, ◌&&◌, ◌||◌, List, [], ◌∷◌, length, Option, Some, None, refl, sym, ap, subst, arith, All, AllPairs, slice_get, get_or, set, eqb, ltb, leb, length-append}
 use Rattle.std.specs.List.{list_any, list_all, AllPass}
-use Rattle.std.proofs.lemmas.Bool.{ltb-true, leb-true, eqb-true, eqb-false}
+use Rattle.std.proofs.lemmas.Bool.{ltb-true, leb-true, eqb-false}
 use Rattle.std.proofs.lemmas.Bool.Decides.{nat_tests}
 use Rattle.std.proofs.lemmas.List.{length-set, length-replicate}
 use Rattle.std.proofs.lemmas.List.Elements.{All-set, All-push, All-weaker, All-nil, All-replicate}
@@ -11,16 +11,15 @@ use Rattle.std.proofs.lemmas.Option.{slice_get_within, get_or_from_slice_get}
 use Rattle.tm_kernel.specs.declared.spec.Action.{Action}
 use Rattle.tm_kernel.specs.declared.spec.Action.TheVariants.{Nothing, Tick, Activate, Event}
 use Rattle.tm_kernel.specs.declared.spec.TaskSpec.{TaskSpec}
-use Rattle.tm_kernel.specs.Spec.{IsLineAction, IsKernelSpec}
+use Rattle.tm_kernel.specs.Spec.{IsLineAction}
 use Rattle.tm_image.specs.declared.said.Keyword.{Keyword}
 use Rattle.tm_image.specs.declared.said.Keyword.TheVariants.{Task, Text, Line}
 use Rattle.tm_image.specs.declared.said.TaskLine.{TaskLine}
 use Rattle.tm_image.specs.declared.said.TextLine.{TextLine}
 use Rattle.tm_image.specs.declared.said.ActionLine.{ActionLine}
-use Rattle.tm_image.specs.Steps.{◌>>=◌}
 use Rattle.tm_image.specs.Lines.{tokens, lines_on}
 use Rattle.tm_image.specs.Said.{keyword_in, task_in, text_in, line_in}
-use Rattle.tm_image.specs.Image.{Load, ImageView, IsLoad, IsImage, empty_image, has_text, is_inside, is_taken, is_free, is_task, takes_task, with_task, new_task, text_on, with_text, new_text, takes_line, with_line, new_line, words_on, image_line, is_whole}
+use Rattle.tm_image.specs.Image.{Load, ImageView, IsImage, empty_image, has_text, is_inside, is_taken, is_task, takes_task, with_task, new_task, text_on, with_text, new_text, takes_line, with_line, new_line, words_on, image_line, is_whole}
 use Rattle.tm_image.proofs.Steps.{bound, passed, both}
 
 -- a load whose text may still come

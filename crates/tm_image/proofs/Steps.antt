@@ -1,5 +1,5 @@
 -- What follows of steps that gave a value.
-use Rattle.std.proofs.Common.{◌≡◌, Bool, true, false, ◌&&◌, Option, Some, None, refl, subst}
+use Rattle.std.proofs.Common.{◌≡◌, Bool, true, false, ◌&&◌, Option, Some, None, refl}
 use Rattle.std.specs.Bool.{then_some}
 use Rattle.tm_image.specs.Steps.{◌>>=◌}
 

@@ -1,4 +1,4 @@
-use Rattle.std.proofs.Common.{◌≡◌, map, drop, List, ℕ, Option}
+use Rattle.std.proofs.Common.{◌≡◌, map, drop}
 use Rattle.tm_image.specs.Numbers.{word_in, all_in}
 use Rattle.tm_image.proofs.Fronts.{with_front}
 use Rattle.tm_image.proofs.numbers.words_at.Given as goal
