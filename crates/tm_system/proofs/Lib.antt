@@ -1,0 +1,7 @@
+pub mod Marking
+pub mod Moments
+pub mod Turning
+pub mod Calling
+pub mod Stepping
+pub mod Adding
+pub mod Booting

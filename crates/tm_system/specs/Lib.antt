@@ -1,0 +1,10 @@
+pub mod History
+pub mod Run
+pub mod Turns
+pub mod Marks
+pub mod Controls
+pub mod Telling
+pub mod Follows
+pub mod Machine
+pub mod Parts
+pub mod Examples
