@@ -1,0 +1,4 @@
+pub mod Command
+pub mod Answer
+pub mod Status
+pub mod Outcome
