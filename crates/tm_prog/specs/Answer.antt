@@ -1,5 +1,5 @@
 -- The plain answer to a command: what the contents of the named files alone decide.
-use Rattle.std.specs.Prelude.{ℕ, ◌*◌, nat_le, length, if◌then◌else◌, List, Option, Some, None}
+use Rattle.std.specs.Prelude.{ℕ, nat_le, length, if◌then◌else◌, List, Option, Some, None}
 use Rattle.tm_marker.specs.declared.entries.Slice.{Slice}
 use Rattle.tm_image.specs.Image.{ImageView, image_of}
 use Rattle.tm_image.specs.Plan.{plan_of}
@@ -11,8 +11,8 @@ use Rattle.tm_prog.specs.Command.{Command, Trace}
 
 -- a refusal, or the text to print
 pub data Plain : Type 0 where
-  pub Refused : (status : Status) → Plain
-  pub Printed : (text : List ℕ) → Plain
+  Refused : (status : Status) → Plain
+  Printed : (text : List ℕ) → Plain
 
 -- the image that a file within the limit holds
 abbrev pub image_in : List ℕ → Option ImageView

@@ -1,23 +1,29 @@
 -- What the words of a call ask for.
-use Rattle.std.specs.Prelude.{ℕ, Bool, false, not, ◌&&◌, ◌==◌, if◌then◌else◌, List, [], ◌∷◌, codes, nat_eq, Option, Some, None}
-use Rattle.std.specs.Cmp.Lexicographic.{pointwise}
+use Rattle.std.specs.Prelude.{ℕ, Bool, false, not, ◌&&◌, ◌==◌, if◌then◌else◌, List, [], ◌∷◌, map, codes, bytes_eq, String, string_bytes, Option, Some, None}
+use Rattle.std.specs.declared.alloc.Global.{Global}
+use Rattle.tm_prog.specs.declared.words.Form.{Form}
+use Rattle.tm_prog.specs.declared.words.Form.TheVariants as form
 
--- a command with its words
+-- what the program can be asked for
 pub data Command : Type 0 where
-  -- the whole run of the plan on the image, each the name of a file
-  pub Trace : (image : List ℕ) → (plan : List ℕ) → Command
+  -- the text of the whole run of a plan on an image, each in the file of this name
+  Trace : (image : List ℕ) → (plan : List ℕ) → Command
 
--- two words are one
-abbrev pub is_word : List ℕ → List ℕ → Bool
-is_word a b = pointwise nat_eq a b
+-- the bytes of each word
+abbrev pub texts : List (String Global) → List (List ℕ)
+texts words = map string_bytes words
 
--- a name isn't empty, and doesn't begin with a dash
+-- a name is not empty, and does not begin with a dash
 abbrev pub is_name : List ℕ → Bool
 is_name [] = false
-is_name (c ∷ cs) = not (c == 45)
+is_name (first ∷ rest) = not (first == 45)
 
 -- the command that the words are a form of: `trace IMAGE PLAN`
 abbrev pub command_of : List (List ℕ) → Option Command
 command_of (word ∷ image ∷ plan ∷ []) =
-    if is_word word (codes "trace") && is_name image && is_name plan then Some (Trace image plan) else None
-command_of words = None
+    if bytes_eq word (codes "trace") && is_name image && is_name plan then Some (Trace image plan) else None
+command_of _ = None
+
+-- the command of a form that code found
+abbrev pub asked : Form → Command
+asked (form.Trace image plan) = Trace image.now plan.now

@@ -1,4 +1,5 @@
 pub mod Command
 pub mod Answer
 pub mod Status
+pub mod Reading
 pub mod Outcome

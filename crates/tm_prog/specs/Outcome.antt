@@ -1,10 +1,9 @@
 -- How a status, the sink and the plain answer belong together, and when a call is quiet.
-use Rattle.std.specs.Prelude.{◌≡◌, ◌≢◌, ℕ, ◌<◌, ◌≤◌, ◌⊎◌, ◌++◌, Bool, List, length, Option, Some, None, IsTrue, IsSome, IsSomeAnd}
+use Rattle.std.specs.Prelude.{◌≡◌, ℕ, ◌<◌, ◌≤◌, ◌⊎◌, ◌++◌, Bool, List, length, Option, Some, IsTrue, IsSome}
 use Rattle.tm_io.specs.Counts.{Rose}
 use Rattle.tm_io.specs.Gained.{Gained}
 use Rattle.tm_prog.specs.declared.status.Status.{Status}
 use Rattle.tm_prog.specs.declared.status.Status.TheVariants as status
-use Rattle.tm_prog.specs.Command.{Command, Trace}
 use Rattle.tm_prog.specs.Answer.{Plain, Refused, Printed}
 
 -- the sink gained a proper beginning of the text
@@ -24,17 +23,16 @@ Answers status.Memory before now plain = now ≡ before
 Answers status.Words before now plain = (plain ≡ Some (Refused status.Words)) × (now ≡ before)
 Answers (status.NotBuilt file) before now plain = (plain ≡ Some (Refused (status.NotBuilt file))) × (now ≡ before)
 
--- the files that a command names for reading are there
-abbrev pub AreThere : Option Command → (List ℕ → Option (List ℕ)) → Type 0
-AreThere None content = Unit {0}
-AreThere (Some (Trace image plan)) content = IsSome (content image) × IsSome (content plan)
-
 -- no count of the shelf or of the sink rose in the call
 abbrev pub NoneRose : ℕ → ℕ → ℕ → ℕ → Type 0
 NoneRose gets_before gets_now faults_before faults_now =
-    (Rose gets_before gets_now → ⊥) × (Rose faults_before faults_now → ⊥)
+    ¬ Rose gets_before gets_now × ¬ Rose faults_before faults_now
 
--- as the call begins, shelf and sink are calm, the files to read are there, and the sink has room for the text
-abbrev pub IsReady : Bool → Bool → Option Command → (List ℕ → Option (List ℕ)) → ℕ → List ℕ → Type 0
-IsReady shelf_calm sink_calm command content room text =
-    IsTrue shelf_calm × IsTrue sink_calm × AreThere command content × (length text ≤ room)
+-- as the call begins, the shelf is calm, and the sink tells its bytes, is calm and has room for the text
+abbrev pub IsReady : Bool → Option (List ℕ) → Bool → ℕ → List ℕ → Type 0
+IsReady shelf_calm sink_bytes sink_calm sink_room text =
+    IsTrue shelf_calm × IsSome sink_bytes × IsTrue sink_calm × (length text ≤ sink_room)
+
+-- the text was printed, or there was no memory for it
+abbrev pub IsDone : Status → Type 0
+IsDone s = (s ≡ status.Ok) ⊎ (s ≡ status.Memory)
