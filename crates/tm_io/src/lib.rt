@@ -6,11 +6,20 @@
 #![tactic(auto)]
 
 mod counts;
+mod file_shelf;
+mod mem_shelf;
 mod mem_sink;
+mod named_room;
+mod named_rooms;
+mod out_sink;
+mod refill;
 mod shelf;
 mod sink;
 
+pub use file_shelf::FileShelf;
+pub use mem_shelf::MemShelf;
 pub use mem_sink::MemSink;
+pub use out_sink::OutSink;
 pub use shelf::{GetFault, PutFault, Shelf};
 pub use sink::{Failed, Sink};
 

@@ -70,6 +70,14 @@ impl<T: Copy> Items<T> {
         self.items[index]
     }
 
+    /// Puts as many items in the place of those that there are.
+    pub fn copy_from_slice(&mut self, items: &[T])
+        requires { length self.old ≡ length items.now }
+        ensures { self.new ≡ items.now }
+    {
+        self.items.copy_from_slice(items);
+    }
+
     /// Puts an item in the place of another.
     pub fn set(&mut self, index: usize, item: T)
         requires { index < length self.old }

@@ -1,1 +1,5 @@
 pub mod Masks
+pub mod Apart
+pub mod Rows
+pub mod Encoded
+pub mod Decoded

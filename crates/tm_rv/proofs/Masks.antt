@@ -1,29 +1,25 @@
--- A row's mask and bits tell the same as the fields that the decoder looks at.
-use Rattle.std.proofs.Common.{◌≡◌, ℕ, ◌+◌, ◌-◌, ◌*◌, ◌/◌, ◌%◌, ◌^◌, ◌<◌, refl, arith, Bool, true, false, ◌∙◌, ap, List, [], ◌∷◌, bit_and}
+-- What the table's masks leave of a word, and that the decoder's fields tell the same.
+use Rattle.std.proofs.Common.{◌≡◌, ℕ, ◌+◌, ◌-◌, ◌*◌, ◌/◌, ◌%◌, ◌^◌, ◌<◌, refl, ap, ◌∙◌, arith, Bool, true, List, [], ◌∷◌, bit_and}
 use Rattle.std.proofs.lemmas.Nat.{and_mask, and_block, one_shl}
+use Rattle.std.proofs.lemmas.Bool.{and_parts, eqb-true}
 use Rattle.std.proofs.lemmas.Bool.Decides.{nat_tests}
-use Rattle.std.specs.Prelude.{◌==◌, ◌&&◌, ◌||◌, nat_lt, find}
+use Rattle.std.specs.Prelude.{◌==◌, ◌&&◌, find}
+use Rattle.std.specs.List.{list_all}
 use Rattle.std.specs.Option.{option_map}
-use Rattle.tm_rv.specs.Table.{Row, rows, belongs, op_of}
-use Rattle.tm_rv.specs.ByFields.{belongs_by, op_by}
-
-and_left : (a b : Bool) → (a && b) ≡ true → a ≡ true
-and_left true b h = refl
-and_left false b h = h
-
-and_right : (a b : Bool) → (a && b) ≡ true → b ≡ true
-and_right true b h = h
-and_right false b h = cc
+use Rattle.tm_rv.specs.Table.{Format, RType, IType, SType, BType, UType, JType, ShiftType, WordType, Row, rows, row_for, belongs, op_of}
+use Rattle.tm_rv.specs.ByFields.{has_opcode, has_funct3, has_funct7, fields_match, op_by, instr_by}
+use Rattle.tm_rv.specs.Instr.{split, instr_of}
+use Rattle.tm_rv.proofs.Rows.{is_regular, in_opcode, in_funct3, in_funct7}
 
 -- the code's mask of the lowest bits
 pub masked : (n k : ℕ) → k < 32 → bit_and n (1 * 2 ^ k % 2 ^ 32 - 1) ≡ n % 2 ^ k
 masked n k small = rw (one_shl k 32 small) (and_mask n k)
 
 -- what the four masks leave of a word
-opcode_left : (w : ℕ) → bit_and w 0x7f ≡ w % 2 ^ 7
+pub opcode_left : (w : ℕ) → bit_and w 0x7f ≡ w % 2 ^ 7
 opcode_left w = and_mask w 7
 
-funct3_left : (w : ℕ) → bit_and w 0x707f ≡ w / 2 ^ 12 % 2 ^ 3 * 2 ^ 12 + w % 2 ^ 7
+pub funct3_left : (w : ℕ) → bit_and w 0x707f ≡ w / 2 ^ 12 % 2 ^ 3 * 2 ^ 12 + w % 2 ^ 7
 funct3_left w =
     let parts : bit_and (w / 2 ^ 12 * 2 ^ 12 + w % 2 ^ 12) (7 * 2 ^ 12 + 0x7f) ≡ bit_and (w / 2 ^ 12) 7 * 2 ^ 12 + bit_and (w % 2 ^ 12) 0x7f = and_block 12 (w / 2 ^ 12) 7 (w % 2 ^ 12) 0x7f (omega arith) (omega arith) in
     let joined : w / 2 ^ 12 * 2 ^ 12 + w % 2 ^ 12 ≡ w = omega arith in
@@ -33,7 +29,7 @@ funct3_left w =
     let sum : bit_and (w / 2 ^ 12) 7 * 2 ^ 12 + bit_and (w % 2 ^ 12) 0x7f ≡ w / 2 ^ 12 % 2 ^ 3 * 2 ^ 12 + w % 2 ^ 7 = rw (high, low, same) in
     rw joined at (parts ∙ sum)
 
-funct7_left : (w : ℕ) → w < 2 ^ 32 → bit_and w 0xfe00707f ≡ w / 2 ^ 25 * 2 ^ 25 + (w / 2 ^ 12 % 2 ^ 3 * 2 ^ 12 + w % 2 ^ 7)
+pub funct7_left : (w : ℕ) → w < 2 ^ 32 → bit_and w 0xfe00707f ≡ w / 2 ^ 25 * 2 ^ 25 + (w / 2 ^ 12 % 2 ^ 3 * 2 ^ 12 + w % 2 ^ 7)
 funct7_left w small =
     let parts : bit_and (w / 2 ^ 25 * 2 ^ 25 + w % 2 ^ 25) (0x7f * 2 ^ 25 + 0x707f) ≡ bit_and (w / 2 ^ 25) 0x7f * 2 ^ 25 + bit_and (w % 2 ^ 25) 0x707f = and_block 25 (w / 2 ^ 25) 0x7f (w % 2 ^ 25) 0x707f (omega arith) (omega arith) in
     let joined : w / 2 ^ 25 * 2 ^ 25 + w % 2 ^ 25 ≡ w = omega arith in
@@ -43,54 +39,64 @@ funct7_left w small =
     let sum : bit_and (w / 2 ^ 25) 0x7f * 2 ^ 25 + bit_and (w % 2 ^ 25) 0x707f ≡ w / 2 ^ 25 * 2 ^ 25 + (w / 2 ^ 12 % 2 ^ 3 * 2 ^ 12 + w % 2 ^ 7) = rw (high, funct3_left (w % 2 ^ 25), middle, low) in
     rw joined at (parts ∙ sum)
 
-all_left : (w : ℕ) → w < 2 ^ 32 → bit_and w 0xffffffff ≡ w
+pub all_left : (w : ℕ) → w < 2 ^ 32 → bit_and w 0xffffffff ≡ w
 all_left w small = and_mask w 32 ∙ omega arith
 
--- the mask is one of four, and the row's bits are within it
-abbrev is_regular : ℕ → ℕ → Bool
-is_regular mask bits =
-    (mask == 0x7f && nat_lt bits (2 ^ 7)) ||
-    (mask == 0x707f && bits == bits / 2 ^ 12 % 2 ^ 3 * 2 ^ 12 + bits % 2 ^ 7) ||
-    (mask == 0xfe00707f && bits == bits / 2 ^ 25 * 2 ^ 25 + (bits / 2 ^ 12 % 2 ^ 3 * 2 ^ 12 + bits % 2 ^ 7)) ||
-    (mask == 0xffffffff)
+-- the fields of a word as the code takes them
+abbrev opcode : ℕ → ℕ
+opcode w = bit_and w 0x7f
 
--- a number of three parts is another where the parts are
-parts_equal : (a b c x y z : ℕ) → a < 2 ^ 7 → x < 2 ^ 7 → b < 2 ^ 3 → y < 2 ^ 3 →
-    (c * 2 ^ 25 + (b * 2 ^ 12 + a) == z * 2 ^ 25 + (y * 2 ^ 12 + x)) ≡ (a == x && b == y && c == z)
-parts_equal a b c x y z small_a small_x small_b small_y = grind (arith, nat_tests)
+abbrev funct3 : ℕ → ℕ
+funct3 w = bit_and (w / 2 ^ 12) 7
 
-opcode_case : (w b : ℕ) → nat_lt b (2 ^ 7) ≡ true → (bit_and w 0x7f == b) ≡ (bit_and w 0x7f == b % 2 ^ 7)
-opcode_case w b h = grind (arith, nat_tests)
+abbrev funct7 : ℕ → ℕ
+funct7 w = w / 2 ^ 25
 
-funct3_case : (w b : ℕ) → (b == b / 2 ^ 12 % 2 ^ 3 * 2 ^ 12 + b % 2 ^ 7) ≡ true →
-    (bit_and w 0x707f == b) ≡ (bit_and w 0x7f == b % 2 ^ 7 && bit_and (w / 2 ^ 12) 7 == b / 2 ^ 12 % 2 ^ 3)
-funct3_case w b h = rw (funct3_left w, opcode_left w, and_mask (w / 2 ^ 12) 3) (grind (arith, nat_tests))
+same_by_opcode : (w bits : ℕ) → in_opcode bits ≡ true → (bit_and w 0x7f == bits) ≡ has_opcode bits (opcode w)
+same_by_opcode w bits h = grind (arith, nat_tests)
 
-funct7_case : (w b : ℕ) → w < 2 ^ 32 → (b == b / 2 ^ 25 * 2 ^ 25 + (b / 2 ^ 12 % 2 ^ 3 * 2 ^ 12 + b % 2 ^ 7)) ≡ true →
-    (bit_and w 0xfe00707f == b) ≡ (bit_and w 0x7f == b % 2 ^ 7 && bit_and (w / 2 ^ 12) 7 == b / 2 ^ 12 % 2 ^ 3 && w / 2 ^ 25 == b / 2 ^ 25)
-funct7_case w b small h = rw (funct7_left w small, opcode_left w, and_mask (w / 2 ^ 12) 3) (grind (arith, nat_tests))
+same_by_funct3 : (w bits : ℕ) → in_funct3 bits ≡ true → (bit_and w 0x707f == bits) ≡ has_funct3 bits (opcode w) (funct3 w)
+same_by_funct3 w bits h = rw (funct3_left w, opcode_left w, and_mask (w / 2 ^ 12) 3) (grind (arith, nat_tests))
 
-all_case : (w b : ℕ) → w < 2 ^ 32 → (bit_and w 0xffffffff == b) ≡ (bit_and w 0x7f == b % 2 ^ 7 && w == b)
-all_case w b small = rw (all_left w small, opcode_left w) (grind (arith, nat_tests))
+same_by_funct7 : (w bits : ℕ) → w < 2 ^ 32 → in_funct7 bits ≡ true →
+    (bit_and w 0xfe00707f == bits) ≡ has_funct7 bits (opcode w) (funct3 w) (funct7 w)
+same_by_funct7 w bits small h = rw (funct7_left w small, opcode_left w, and_mask (w / 2 ^ 12) 3) (grind (arith, nat_tests))
 
--- a regular row tells the same by its mask and by the fields
-same_test : (w : ℕ) → w < 2 ^ 32 → (r : Row) → is_regular r.mask r.bits ≡ true →
-    belongs w r ≡ belongs_by (bit_and w 0x7f) (bit_and (w / 2 ^ 12) 7) (w / 2 ^ 25) w r
-same_test w small r regular = grind (arith, nat_tests, opcode_case w r.bits, funct3_case w r.bits, funct7_case w r.bits small, all_case w r.bits small)
+same_by_word : (w bits : ℕ) → w < 2 ^ 32 → (bit_and w 0xffffffff == bits) ≡ (has_opcode bits (opcode w) && w == bits)
+same_by_word w bits small = rw (all_left w small, opcode_left w) (grind (arith, nat_tests))
 
-abbrev all_regular : List Row → Bool
-all_regular [] = true
-all_regular (r ∷ rs) = is_regular r.mask r.bits && all_regular rs
+-- the same at a mask that is known by a test
+at_mask : (mask wanted : ℕ) (w bits : ℕ) (answer test : Bool) → (mask == wanted && test) ≡ true →
+    (test ≡ true → (bit_and w wanted == bits) ≡ answer) → (bit_and w mask == bits) ≡ answer
+at_mask mask wanted w bits answer test h same =
+    ap (λ m. bit_and w m == bits) (eqb-true mask wanted (and_parts _ _ h).0) ∙ same (and_parts _ _ h).1
 
-same_find : (w : ℕ) → w < 2 ^ 32 → (rs : List Row) → all_regular rs ≡ true →
-    find (belongs w) rs ≡ find (belongs_by (bit_and w 0x7f) (bit_and (w / 2 ^ 12) 7) (w / 2 ^ 25) w) rs
-same_find w small [] regular = refl
-same_find w small (r ∷ rs) regular =
-    let here = same_test w small r (and_left _ _ regular) in
-    let rest = same_find w small rs (and_right _ _ regular) in
+-- a regular row's mask and bits tell the same as the fields
+same_test : (fmt : Format) (mask bits w : ℕ) → w < 2 ^ 32 → is_regular fmt mask bits ≡ true →
+    (bit_and w mask == bits) ≡ fields_match fmt bits (opcode w) (funct3 w) (funct7 w) w
+same_test RType mask bits w small h = at_mask mask _ w bits _ _ h (same_by_funct7 w bits small)
+same_test IType mask bits w small h = at_mask mask _ w bits _ _ h (same_by_funct3 w bits)
+same_test SType mask bits w small h = at_mask mask _ w bits _ _ h (same_by_funct3 w bits)
+same_test BType mask bits w small h = at_mask mask _ w bits _ _ h (same_by_funct3 w bits)
+same_test UType mask bits w small h = at_mask mask _ w bits _ _ h (same_by_opcode w bits)
+same_test JType mask bits w small h = at_mask mask _ w bits _ _ h (same_by_opcode w bits)
+same_test ShiftType mask bits w small h = at_mask mask _ w bits _ _ h (same_by_funct7 w bits small)
+same_test WordType mask bits w small h = at_mask mask _ w bits _ _ h (λ _. same_by_word w bits small)
+
+same_find : (w : ℕ) (rs : List Row) → w < 2 ^ 32 → list_all (λ r. is_regular r.format r.mask r.bits) rs ≡ true →
+    find (belongs w) rs ≡ find (λ r. fields_match r.format r.bits (opcode w) (funct3 w) (funct7 w) w) rs
+same_find w [] small regular = refl
+same_find w (r ∷ rs) small regular =
+    let here = same_test r.format r.mask r.bits w small (and_parts _ _ regular).0 in
+    let rest = same_find w rs small (and_parts _ _ regular).1 in
     rw (here, rest)
 
 pub op_of_is : (word : ℕ) → word < 2 ^ 32 →
     op_of word ≡ op_by (bit_and word 0x7f) (bit_and (word / 2 ^ 12) 7) (word / 2 ^ 25) word
 unfolding op_of
-op_of_is word small = ap (option_map (λ (r : Row). r.op)) (same_find word small rows refl)
+op_of_is word small = ap (option_map (λ (r : Row). r.op)) (same_find word rows small refl)
+
+pub instr_of_is : (word : ℕ) → word < 2 ^ 32 →
+    instr_of word ≡ instr_by (bit_and word 0x7f) (bit_and (word / 2 ^ 12) 7) (word / 2 ^ 25) word
+unfolding instr_of
+instr_of_is word small = ap (option_map (λ op. split (row_for op).format op word)) (op_of_is word small)

@@ -1,17 +1,36 @@
 -- The rows as the decoder tells them apart: by opcode, funct3 and funct7 in place of masks.
-use Rattle.std.specs.Prelude.{ℕ, ◌/◌, ◌%◌, ◌^◌, Option, Bool, ◌==◌, ◌&&◌, find, if◌then◌else◌}
+use Rattle.std.specs.Prelude.{ℕ, ◌/◌, ◌%◌, ◌^◌, Option, Bool, ◌==◌, ◌&&◌, find}
 use Rattle.std.specs.Option.{option_map}
 use Rattle.tm_rv.specs.declared.instr.Op.{Op}
-use Rattle.tm_rv.specs.Table.{Row, rows}
+use Rattle.tm_rv.specs.Table.{Format, RType, IType, SType, BType, UType, JType, ShiftType, WordType, rows, row_for}
+use Rattle.tm_rv.specs.Instr.{split}
+use Rattle.tm_rv.specs.declared.instr.Instr.{Instr}
 
--- the fields are those of the row's bits, as far as its mask has them
-abbrev pub belongs_by : ℕ → ℕ → ℕ → ℕ → Row → Bool
-belongs_by opcode funct3 funct7 word r =
-    if r.mask == 0x7f then opcode == r.bits % 2 ^ 7
-    else if r.mask == 0x707f then opcode == r.bits % 2 ^ 7 && funct3 == r.bits / 2 ^ 12 % 2 ^ 3
-    else if r.mask == 0xfe00707f then opcode == r.bits % 2 ^ 7 && funct3 == r.bits / 2 ^ 12 % 2 ^ 3 && funct7 == r.bits / 2 ^ 25
-    else opcode == r.bits % 2 ^ 7 && word == r.bits
+abbrev pub has_opcode : ℕ → ℕ → Bool
+has_opcode bits opcode = opcode == bits % 2 ^ 7
+
+abbrev pub has_funct3 : ℕ → ℕ → ℕ → Bool
+has_funct3 bits opcode funct3 = has_opcode bits opcode && funct3 == bits / 2 ^ 12 % 2 ^ 3
+
+abbrev pub has_funct7 : ℕ → ℕ → ℕ → ℕ → Bool
+has_funct7 bits opcode funct3 funct7 = has_funct3 bits opcode funct3 && funct7 == bits / 2 ^ 25
+
+-- the fields that tell an operation of the format are those of these bits
+abbrev pub fields_match : Format → ℕ → ℕ → ℕ → ℕ → ℕ → Bool
+fields_match RType bits opcode funct3 funct7 word = has_funct7 bits opcode funct3 funct7
+fields_match IType bits opcode funct3 funct7 word = has_funct3 bits opcode funct3
+fields_match SType bits opcode funct3 funct7 word = has_funct3 bits opcode funct3
+fields_match BType bits opcode funct3 funct7 word = has_funct3 bits opcode funct3
+fields_match UType bits opcode funct3 funct7 word = has_opcode bits opcode
+fields_match JType bits opcode funct3 funct7 word = has_opcode bits opcode
+fields_match ShiftType bits opcode funct3 funct7 word = has_funct7 bits opcode funct3 funct7
+fields_match WordType bits opcode funct3 funct7 word = has_opcode bits opcode && word == bits
 
 -- the operation of the first row that has these fields
 abbrev pub op_by : ℕ → ℕ → ℕ → ℕ → Option Op
-op_by opcode funct3 funct7 word = option_map (λ r. r.op) (find (belongs_by opcode funct3 funct7 word) rows)
+op_by opcode funct3 funct7 word =
+    option_map (λ r. r.op) (find (λ r. fields_match r.format r.bits opcode funct3 funct7 word) rows)
+
+-- the instruction of a word with these fields
+abbrev pub instr_by : ℕ → ℕ → ℕ → ℕ → Option Instr
+instr_by opcode funct3 funct7 word = option_map (λ op. split (row_for op).format op word) (op_by opcode funct3 funct7 word)

@@ -1,5 +1,5 @@
 -- The fields of a word, and the instruction that it is.
-use Rattle.std.specs.Prelude.{ℕ, ◌+◌, ◌-◌, ◌*◌, ◌/◌, ◌%◌, ◌^◌, ◌<◌, Option, nat_lt, if◌then◌else◌}
+use Rattle.std.specs.Prelude.{◌≡◌, ℕ, ◌+◌, ◌-◌, ◌*◌, ◌/◌, ◌%◌, ◌^◌, ◌<◌, Option, nat_lt, if◌then◌else◌}
 use Rattle.std.specs.Option.{option_map}
 use Rattle.tm_rv.specs.declared.instr.Op.{Op}
 use Rattle.tm_rv.specs.declared.instr.Instr.{Instr}
@@ -57,3 +57,23 @@ split WordType op w = instr op 0 0 0 (imm_of WordType w)
 -- the instruction that a word is, if it belongs to a row
 unfoldable pub instr_of : ℕ → Option Instr
 instr_of word = option_map (λ op. split (row_for op).format op word) (op_of word)
+
+-- a number of 32 bits that is the sign extension of its lowest bits
+abbrev pub IsSignExtended : ℕ → ℕ → Type 0
+IsSignExtended count imm = imm ≡ sign_extend count (imm % 2 ^ count)
+
+-- the fields are in the range of the format: registers below 32, an immediate that the format can
+-- hold, and 0 for what it lacks
+abbrev pub FitsFormat : Format → Instr → Type 0
+FitsFormat RType i = IsRegister i.rd × IsRegister i.rs1 × IsRegister i.rs2 × (i.imm ≡ 0)
+FitsFormat IType i = IsRegister i.rd × IsRegister i.rs1 × (i.rs2 ≡ 0) × IsSignExtended 12 i.imm
+FitsFormat SType i = (i.rd ≡ 0) × IsRegister i.rs1 × IsRegister i.rs2 × IsSignExtended 12 i.imm
+FitsFormat BType i = (i.rd ≡ 0) × IsRegister i.rs1 × IsRegister i.rs2 × IsSignExtended 13 i.imm × (i.imm % 2 ≡ 0)
+FitsFormat UType i = IsRegister i.rd × (i.rs1 ≡ 0) × (i.rs2 ≡ 0) × (i.imm < 2 ^ 32) × (i.imm % 2 ^ 12 ≡ 0)
+FitsFormat JType i = IsRegister i.rd × (i.rs1 ≡ 0) × (i.rs2 ≡ 0) × IsSignExtended 21 i.imm × (i.imm % 2 ≡ 0)
+FitsFormat ShiftType i = IsRegister i.rd × IsRegister i.rs1 × (i.rs2 ≡ 0) × (i.imm < 32)
+FitsFormat WordType i = (i.rd ≡ 0) × (i.rs1 ≡ 0) × (i.rs2 ≡ 0) × (i.imm ≡ 0)
+
+-- the fields are in the range of the format that the operation has
+abbrev pub IsEncodable : Instr → Type 0
+IsEncodable i = FitsFormat (row_for i.op).format i

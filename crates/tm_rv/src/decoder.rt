@@ -1,271 +1,161 @@
 //! From a word to the instruction that it is.
 
-ghost use Rattle.std.specs.Prelude.{◌≡◌, ◌+◌, ◌-◌, ◌*◌, ◌/◌, ◌%◌, ◌^◌, ◌<◌, ◌≤◌, IfSome};
-ghost use Rattle.tm_rv.specs.Table.{op_of, row_for, IType, SType, BType, UType, JType, ShiftType};
-ghost use Rattle.tm_rv.specs.ByFields.{op_by};
-ghost use Rattle.tm_rv.specs.Instr.{field, sign_extend, imm_of, split, instr_of, IsRegister};
+ghost use Rattle.std.specs.Prelude.{◌≡◌, ℕ, ◌^◌, ◌<◌, ◌≢◌, ◌⊎◌, IfSome};
+ghost use Rattle.tm_rv.specs.Table.{row_for, IType, SType, BType, RType, ShiftType, WordType};
+ghost use Rattle.tm_rv.specs.ByFields.{op_by, instr_by};
+ghost use Rattle.tm_rv.specs.Instr.{instr_of, IsRegister, IsEncodable};
 
+use crate::formats::{
+    split_b, split_i, split_j, split_r, split_s, split_shift, split_u, split_word,
+};
 use crate::{Instr, Op};
 
-/// The instruction that a word is, or `None` where no row of the table matches (chapter 2; the
-/// words of each row are listed in chapter 24, "RV32/64G Instruction Set Listings").
+// The major opcodes, by their names in table 24.1, "RISC-V base opcode map".
+const LOAD: u32 = 0b00_000_11;
+
+const MISC_MEM: u32 = 0b00_011_11;
+
+const OP_IMM: u32 = 0b00_100_11;
+
+const AUIPC: u32 = 0b00_101_11;
+
+const STORE: u32 = 0b01_000_11;
+
+const OP: u32 = 0b01_100_11;
+
+const LUI: u32 = 0b01_101_11;
+
+const BRANCH: u32 = 0b11_000_11;
+
+const JALR: u32 = 0b11_001_11;
+
+const JAL: u32 = 0b11_011_11;
+
+const SYSTEM: u32 = 0b11_100_11;
+
+// The two words of SYSTEM.
+const ECALL: u32 = 0x0000_0073;
+
+const EBREAK: u32 = 0x0010_0073;
+
+/// The instruction that a word is, or `None` where no row of the table matches (chapter 24,
+/// "RV32/64G Instruction Set Listings", RV32I Base Instruction Set).
 #[inline]
-#[tactic(auto, unfolding(crate::specs::Instr::instr_of))]
 pub fn decode(word: u32) -> Option<Instr>
     ensures table { result ≡ instr_of word }
+    ensures encodable { IfSome result IsEncodable }
     ensures registers { IfSome result (λ i. IsRegister i.rd × IsRegister i.rs1 × IsRegister i.rs2) }
     ensures immediate { IfSome result (λ i. i.imm < 2 ^ 32) }
-{
-    let op = find_op(word)?;
-    Some(instr_with(op, word))
-}
-
-#[inline]
-#[tactic(auto, using(crate::proofs::Masks::op_of_is))]
-fn find_op(word: u32) -> Option<Op>
-    ensures { result ≡ op_of word }
 {
     by_fields(word & 0x7f, (word >> 12) & 7, word >> 25, word)
 }
 
+/// The opcode tells the format, but for shifts by an immediate amount.
+#[inline]
+fn by_fields(opcode: u32, funct3: u32, funct7: u32, word: u32) -> Option<Instr>
+    ensures { result ≡ instr_by opcode funct3 funct7 word }
+{
+    match opcode {
+        LUI => Some(split_u(Op::Lui, word)),
+        AUIPC => Some(split_u(Op::Auipc, word)),
+        JAL => Some(split_j(Op::Jal, word)),
+        JALR if funct3 == 0 => Some(split_i(Op::Jalr, word)),
+        BRANCH => branch(funct3, word),
+        LOAD => load(funct3, word),
+        STORE => store(funct3, word),
+        OP_IMM => with_immediate(funct3, funct7, word),
+        OP => with_register(funct3, funct7, word),
+        MISC_MEM if funct3 == 0 => Some(split_i(Op::Fence, word)),
+        SYSTEM if word == ECALL => Some(split_word(Op::Ecall)),
+        SYSTEM if word == EBREAK => Some(split_word(Op::Ebreak)),
+        _ => None,
+    }
+}
+
 #[inline]
 #[tactic(auto, using(std::proofs::lemmas::Bool::Decides::nat_tests))]
-fn by_fields(opcode: u32, funct3: u32, funct7: u32, word: u32) -> Option<Op>
-    ensures { result ≡ op_by opcode funct3 funct7 word }
+fn branch(funct3: u32, word: u32) -> Option<Instr>
+    ensures { (funct7 : ℕ) → result ≡ instr_by BRANCH funct3 funct7 word }
 {
-    let op = match opcode {
-        0b0110111 => Op::Lui,
-        0b0010111 => Op::Auipc,
-        0b1101111 => Op::Jal,
-        0b1100111 => match funct3 {
-            0 => Op::Jalr,
-            _ => return None,
-        },
-        0b1100011 => match funct3 {
-            0 => Op::Beq,
-            1 => Op::Bne,
-            4 => Op::Blt,
-            5 => Op::Bge,
-            6 => Op::Bltu,
-            7 => Op::Bgeu,
-            _ => return None,
-        },
-        0b0000011 => match funct3 {
-            0 => Op::Lb,
-            1 => Op::Lh,
-            2 => Op::Lw,
-            4 => Op::Lbu,
-            5 => Op::Lhu,
-            _ => return None,
-        },
-        0b0100011 => match funct3 {
-            0 => Op::Sb,
-            1 => Op::Sh,
-            2 => Op::Sw,
-            _ => return None,
-        },
-        0b0010011 => match (funct3, funct7) {
-            (0, _) => Op::Addi,
-            (2, _) => Op::Slti,
-            (3, _) => Op::Sltiu,
-            (4, _) => Op::Xori,
-            (6, _) => Op::Ori,
-            (7, _) => Op::Andi,
-            (1, 0b0000000) => Op::Slli,
-            (5, 0b0000000) => Op::Srli,
-            (5, 0b0100000) => Op::Srai,
-            _ => return None,
-        },
-        0b0110011 => match (funct3, funct7) {
-            (0, 0b0000000) => Op::Add,
-            (0, 0b0100000) => Op::Sub,
-            (1, 0b0000000) => Op::Sll,
-            (2, 0b0000000) => Op::Slt,
-            (3, 0b0000000) => Op::Sltu,
-            (4, 0b0000000) => Op::Xor,
-            (5, 0b0000000) => Op::Srl,
-            (5, 0b0100000) => Op::Sra,
-            (6, 0b0000000) => Op::Or,
-            (7, 0b0000000) => Op::And,
-            _ => return None,
-        },
-        0b0001111 => match funct3 {
-            0 => Op::Fence,
-            _ => return None,
-        },
-        0b1110011 => match word {
-            0x0000_0073 => Op::Ecall,
-            0x0010_0073 => Op::Ebreak,
-            _ => return None,
-        },
+    let op = match funct3 {
+        0b000 => Op::Beq,
+        0b001 => Op::Bne,
+        0b100 => Op::Blt,
+        0b101 => Op::Bge,
+        0b110 => Op::Bltu,
+        0b111 => Op::Bgeu,
         _ => return None,
     };
-    Some(op)
+    Some(split_b(op, word))
 }
 
-/// The fields that the operation's format has.
 #[inline]
-fn instr_with(op: Op, word: u32) -> Instr
-    ensures split { result ≡ split (row_for op).format op word }
-    ensures registers { IsRegister result.rd × IsRegister result.rs1 × IsRegister result.rs2 }
+#[tactic(auto, using(std::proofs::lemmas::Bool::Decides::nat_tests))]
+fn load(funct3: u32, word: u32) -> Option<Instr>
+    ensures { (funct7 : ℕ) → result ≡ instr_by LOAD funct3 funct7 word }
 {
-    let bare = Instr {
-        op,
-        rd: 0,
-        rs1: 0,
-        rs2: 0,
-        imm: 0,
+    let op = match funct3 {
+        0b000 => Op::Lb,
+        0b001 => Op::Lh,
+        0b010 => Op::Lw,
+        0b100 => Op::Lbu,
+        0b101 => Op::Lhu,
+        _ => return None,
     };
-    let rd = register(word, 7);
-    let rs1 = register(word, 15);
-    let rs2 = register(word, 20);
-    match op {
-        Op::Lui | Op::Auipc => Instr {
-            rd,
-            imm: upper_immediate(word),
-            ..bare
-        },
-        Op::Jal => Instr {
-            rd,
-            imm: jump_immediate(word),
-            ..bare
-        },
-        Op::Beq | Op::Bne | Op::Blt | Op::Bge | Op::Bltu | Op::Bgeu => Instr {
-            rs1,
-            rs2,
-            imm: branch_immediate(word),
-            ..bare
-        },
-        Op::Sb | Op::Sh | Op::Sw => Instr {
-            rs1,
-            rs2,
-            imm: store_immediate(word),
-            ..bare
-        },
-        Op::Slli | Op::Srli | Op::Srai => Instr {
-            rd,
-            rs1,
-            imm: field(word, 24, 20),
-            ..bare
-        },
-        Op::Add
-        | Op::Sub
-        | Op::Sll
-        | Op::Slt
-        | Op::Sltu
-        | Op::Xor
-        | Op::Srl
-        | Op::Sra
-        | Op::Or
-        | Op::And => Instr {
-            rd,
-            rs1,
-            rs2,
-            ..bare
-        },
-        Op::Ecall | Op::Ebreak => bare,
-        Op::Jalr
-        | Op::Lb
-        | Op::Lh
-        | Op::Lw
-        | Op::Lbu
-        | Op::Lhu
-        | Op::Addi
-        | Op::Slti
-        | Op::Sltiu
-        | Op::Xori
-        | Op::Ori
-        | Op::Andi
-        | Op::Fence => Instr {
-            rd,
-            rs1,
-            imm: immediate(word),
-            ..bare
-        },
-    }
+    Some(split_i(op, word))
 }
 
 #[inline]
-fn immediate(word: u32) -> u32
-    ensures { result ≡ imm_of IType word }
+#[tactic(auto, using(std::proofs::lemmas::Bool::Decides::nat_tests))]
+fn store(funct3: u32, word: u32) -> Option<Instr>
+    ensures { (funct7 : ℕ) → result ≡ instr_by STORE funct3 funct7 word }
 {
-    extended(field(word, 31, 20), 12)
+    let op = match funct3 {
+        0b000 => Op::Sb,
+        0b001 => Op::Sh,
+        0b010 => Op::Sw,
+        _ => return None,
+    };
+    Some(split_s(op, word))
 }
 
 #[inline]
-fn store_immediate(word: u32) -> u32
-    ensures { result ≡ imm_of SType word }
+#[tactic(auto, using(std::proofs::lemmas::Bool::Decides::nat_tests))]
+fn with_immediate(funct3: u32, funct7: u32, word: u32) -> Option<Instr>
+    ensures { result ≡ instr_by OP_IMM funct3 funct7 word }
 {
-    extended(field(word, 11, 7) | field(word, 31, 25) << 5, 12)
+    let op = match (funct3, funct7) {
+        (0b000, _) => Op::Addi,
+        (0b001, 0b0000000) => return Some(split_shift(Op::Slli, word)),
+        (0b010, _) => Op::Slti,
+        (0b011, _) => Op::Sltiu,
+        (0b100, _) => Op::Xori,
+        (0b101, 0b0000000) => return Some(split_shift(Op::Srli, word)),
+        (0b101, 0b0100000) => return Some(split_shift(Op::Srai, word)),
+        (0b110, _) => Op::Ori,
+        (0b111, _) => Op::Andi,
+        _ => return None,
+    };
+    Some(split_i(op, word))
 }
 
 #[inline]
-fn branch_immediate(word: u32) -> u32
-    ensures { result ≡ imm_of BType word }
+#[tactic(auto, using(std::proofs::lemmas::Bool::Decides::nat_tests))]
+fn with_register(funct3: u32, funct7: u32, word: u32) -> Option<Instr>
+    ensures { result ≡ instr_by OP funct3 funct7 word }
 {
-    extended(
-        field(word, 11, 8) << 1
-            | field(word, 30, 25) << 5
-            | field(word, 7, 7) << 11
-            | field(word, 31, 31) << 12,
-        13,
-    )
-}
-
-#[inline]
-fn upper_immediate(word: u32) -> u32
-    ensures { result ≡ imm_of UType word }
-{
-    field(word, 31, 12) << 12
-}
-
-#[inline]
-fn jump_immediate(word: u32) -> u32
-    ensures { result ≡ imm_of JType word }
-{
-    extended(
-        field(word, 30, 21) << 1
-            | field(word, 20, 20) << 11
-            | field(word, 19, 12) << 12
-            | field(word, 31, 31) << 20,
-        21,
-    )
-}
-
-/// The register whose number begins at this bit.
-#[inline]
-fn register(word: u32, low: u32) -> u8
-    requires { low ≤ 20 }
-    ensures value { result ≡ field word (low + 4) low }
-    ensures small { IsRegister result }
-{
-    field(word, low + 4, low) as u8
-}
-
-/// The bits from `high` down to `low`.
-#[inline]
-#[tactic(auto, using(crate::proofs::Masks::masked))]
-fn field(word: u32, high: u32, low: u32) -> u32
-    requires ordered { low ≤ high }
-    requires within { high < 32 }
-    requires partial { high < 31 + low }
-    ensures value { result ≡ field word high low }
-    ensures small { result < 2 ^ (high + 1 - low) }
-{
-    (word >> low) & ((1 << (high + 1 - low)) - 1)
-}
-
-/// A number of so many bits, of which the first is the sign, as one of 32 bits.
-#[inline]
-fn extended(value: u32, count: u32) -> u32
-    requires some { 0 < count }
-    requires partial { count < 32 }
-    requires fits { value < 2 ^ count }
-    ensures { result ≡ sign_extend count value }
-{
-    if value < 1 << (count - 1) {
-        value
-    } else {
-        value + (u32::MAX - ((1 << count) - 1))
-    }
+    let op = match (funct3, funct7) {
+        (0b000, 0b0000000) => Op::Add,
+        (0b000, 0b0100000) => Op::Sub,
+        (0b001, 0b0000000) => Op::Sll,
+        (0b010, 0b0000000) => Op::Slt,
+        (0b011, 0b0000000) => Op::Sltu,
+        (0b100, 0b0000000) => Op::Xor,
+        (0b101, 0b0000000) => Op::Srl,
+        (0b101, 0b0100000) => Op::Sra,
+        (0b110, 0b0000000) => Op::Or,
+        (0b111, 0b0000000) => Op::And,
+        _ => return None,
+    };
+    Some(split_r(op, word))
 }

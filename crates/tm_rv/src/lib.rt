@@ -6,8 +6,16 @@
 //! that the operation's format has.
 #![tactic(auto)]
 
+mod bits;
 mod decoder;
+mod encoder;
+mod formats;
 mod instr;
+mod names;
+mod table;
 
 pub use decoder::decode;
+pub use encoder::encode;
 pub use instr::{Instr, Op};
+pub use names::name;
+pub use table::no_word_in_two_rows;

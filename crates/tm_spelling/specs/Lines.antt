@@ -17,7 +17,7 @@ abbrev pub digit : ℕ → ℕ
 digit n = if nat_lt n 10 then 48 + n else 87 + n
 
 -- a word of 32 bits in eight digits
-abbrev pub hex8 : ℕ → List ℕ
+unfoldable pub hex8 : ℕ → List ℕ
 hex8 n =
     digit (n / 16 ^ 7 % 16) ∷ digit (n / 16 ^ 6 % 16) ∷ digit (n / 16 ^ 5 % 16) ∷ digit (n / 16 ^ 4 % 16) ∷
     digit (n / 16 ^ 3 % 16) ∷ digit (n / 16 ^ 2 % 16) ∷ digit (n / 16 % 16) ∷ digit (n % 16) ∷ []
@@ -52,15 +52,15 @@ abbrev pub ending_name : ℕ → List ℕ
 ending_name ended = if ended == 0 then codes "on" else if ended == 1 then codes "fault" else codes "shutdown"
 
 -- start FROM RUNNING
-abbrev pub start_line : ℕ → ℕ → List ℕ
+unfoldable pub start_line : ℕ → ℕ → List ℕ
 start_line from running = line (codes "start " ++ decimal from ++ codes " " ++ who running)
 
 -- task TASK MARKER
-abbrev pub task_line : ℕ → Marker → List ℕ
+unfoldable pub task_line : ℕ → Marker → List ℕ
 task_line task at = line (codes "task " ++ decimal task ++ codes " " ++ marker_text at)
 
 -- task TASK STATE MARKER
-abbrev pub state_line : ℕ → ℕ → Marker → List ℕ
+unfoldable pub state_line : ℕ → ℕ → Marker → List ℕ
 state_line task state at =
     line (codes "task " ++ decimal task ++ codes " " ++ state_name state ++ codes " " ++ marker_text at)
 
@@ -72,30 +72,30 @@ registers_from number (value ∷ values) =
     registers_from (number + 1) values
 
 -- regs, and the registers x1 to x31 that are not 0
-abbrev pub regs_line : List ℕ → List ℕ
+unfoldable pub regs_line : List ℕ → List ℕ
 regs_line regs = line (codes "regs" ++ registers_from 1 regs)
 
 -- data ADDRESS VALUE
-abbrev pub data_line : ℕ × ℕ → List ℕ
+unfoldable pub data_line : ℕ × ℕ → List ℕ
 data_line word = line (codes "data " ++ hex8 word.0 ++ codes " " ++ hex8 word.1)
 
 -- out PORT VALUE
-abbrev pub out_line : OutputEntry → List ℕ
+unfoldable pub out_line : OutputEntry → List ℕ
 out_line output = line (codes "out " ++ decimal output.port ++ codes " " ++ hex8 output.value)
 
 -- switch SEQ FROM KIND TO
-abbrev pub switch_line : ℕ → Switch → List ℕ
+unfoldable pub switch_line : ℕ → Switch → List ℕ
 switch_line seq s =
     line (codes "switch " ++ decimal seq ++ codes " " ++ who s.from ++ codes " " ++ kind_name s.kind ++ codes " " ++ who s.to)
 
 -- at MARKER
-abbrev pub at_line : Marker → List ℕ
+unfoldable pub at_line : Marker → List ℕ
 at_line at = line (codes "at " ++ marker_text at)
 
 -- cause NUMBER
-abbrev pub cause_line : ℕ → List ℕ
+unfoldable pub cause_line : ℕ → List ℕ
 cause_line cause = line (codes "cause " ++ decimal cause)
 
 -- end RUNNING HOW
-abbrev pub end_line : ℕ → ℕ → List ℕ
+unfoldable pub end_line : ℕ → ℕ → List ℕ
 end_line running ended = line (codes "end " ++ who running ++ codes " " ++ ending_name ended)

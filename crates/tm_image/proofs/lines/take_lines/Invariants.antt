@@ -1,0 +1,10 @@
+use Rattle.std.proofs.Common.{◌≡◌, length}
+use Rattle.tm_image.specs.Lines.{pieces, lines_on}
+use Rattle.tm_image.proofs.lines.take_lines.Given as goal
+
+abbrev pub invariant-loop-line : goal.invariant-loop-line
+invariant-loop-line g l =
+    lines_on g.F.Format.next l.format (pieces l.left) ≡ lines_on g.F.Format.next l.fn.format (pieces l.fn.text)
+
+abbrev pub decreases-loop-line : goal.decreases-loop-line
+decreases-loop-line g l = length l.left

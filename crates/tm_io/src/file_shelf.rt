@@ -1,0 +1,102 @@
+//! A shelf over files: the trusted edge, which tells no content.
+
+ghost use Rattle.std.specs.Prelude.{◌≡◌, ◌≤◌, length, OnOk, OnErr};
+ghost use Rattle.tm_io.specs.Counts.{counted};
+
+use crate::{GetFault, PutFault, Shelf};
+use std::fs;
+use std::io::{ErrorKind, Read};
+use std::marker::Model;
+use std::rt::Files;
+
+/// The files of the system, each under its path. A directory can be neither got nor put.
+#[derive(Drop)]
+pub struct FileShelf<R> {
+    rt: R,
+    gets: u64,
+    puts: u64,
+}
+
+impl<R> Model for FileShelf<R> {
+    ghost use Rattle.tm_io.specs.Faults.{Faults};
+
+    ghost Value = { Faults };
+
+    ghost view = { λ s. record { gets = s.gets; puts = s.puts } };
+}
+
+impl<R: Files> FileShelf<R> {
+    ghost use Rattle.tm_io.specs.Faults.{Faults};
+
+    /// The files that this runtime reaches, with no fault counted.
+    pub fn new(rt: R) -> FileShelf<R>
+        ensures { result ≡ record { gets = 0; puts = 0 } }
+    {
+        FileShelf {
+            rt,
+            gets: 0,
+            puts: 0,
+        }
+    }
+
+    /// Reads no further than one byte past the limit, so a file that is longer is not read whole.
+    fn read(&self, name: &str, limit: u64, into: &mut Vec<u8>) -> Result<(), GetFault>
+        ensures within { OnOk result (length into.new.items ≤ limit) }
+        ensures into_stays { OnErr result (into.new.items ≡ into.old.items) }
+    {
+        let mut bytes = Vec::new(*into.allocator());
+        fs::open(&self.rt, name)
+            .and_then(|file| file.take(limit.saturating_add(1)).read_to_end(&mut bytes))
+            .map_err(|error| match error.kind() {
+                ErrorKind::OutOfMemory => GetFault::Memory,
+                _ => GetFault::Failed,
+            })?;
+        if bytes.len() as u64 > limit {
+            return Err(GetFault::TooLong);
+        }
+        *into = bytes;
+        Ok(())
+    }
+}
+
+impl<R: Files> Shelf for FileShelf<R> {
+    ghost use Rattle.std.specs.Prelude.{false, None, if◌then◌else◌, is_ok};
+    ghost use Rattle.tm_io.specs.Faults.{Faults};
+
+    ghost tells = { λ _. false };
+
+    ghost content = { λ _ _. None };
+
+    ghost gets = { λ s. s.gets };
+
+    ghost puts = { λ s. s.puts };
+
+    ghost calm = { λ _. false };
+
+    ghost room = { λ _ _. None };
+
+    fn get(&mut self, name: &str, limit: u64, into: &mut Vec<u8>) -> Result<(), GetFault>
+        ensures within { OnOk result (length into.new.items ≤ limit) }
+        ensures into_stays { OnErr result (into.new.items ≡ into.old.items) }
+        // Each fault is counted, of whatever kind.
+        ensures counts { self.new ≡ record self.old { gets = if is_ok result then self.old.gets else counted self.old.gets } }
+        ensures never_falls { self.old.gets ≤ self.new.gets }
+    {
+        let read = self.read(name, limit, into);
+        if read.is_err() {
+            self.gets = self.gets.saturating_add(1);
+        }
+        read
+    }
+
+    fn put(&mut self, name: &str, bytes: &[u8]) -> Result<(), PutFault>
+        ensures counts { self.new ≡ record self.old { puts = if is_ok result then self.old.puts else counted self.old.puts } }
+        ensures never_falls { self.old.puts ≤ self.new.puts }
+    {
+        if fs::write(&self.rt, name, bytes).is_err() {
+            self.puts = self.puts.saturating_add(1);
+            return Err(PutFault::Failed);
+        }
+        Ok(())
+    }
+}

@@ -1,0 +1,8 @@
+//! What holds of the table as a whole.
+
+ghost use Rattle.tm_rv.specs.Laws.{NoWordInTwoRows};
+
+/// No word belongs to two rows, so that it doesn't matter in which order they are tried.
+pub fn no_word_in_two_rows()
+    ensures { NoWordInTwoRows }
+{}

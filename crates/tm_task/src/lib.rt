@@ -1,0 +1,20 @@
+//! One task of the machine: a program counter, registers and data words that RV32I instructions
+//! change, and calls that an answer resumes.
+//!
+//! [`Task`] is a task. [`Task::step`] executes one instruction of its text and tells by [`Stepped`]
+//! what it did; after a call, [`Task::answer`] gives the task what the service answered. A
+//! [`Cause`] is why an instruction can't be executed.
+#![tactic(auto)]
+
+mod answer;
+mod execute;
+mod laws;
+mod memory;
+mod outcome;
+mod perform;
+mod task;
+
+pub use laws::instructions_are_orderly;
+pub use memory::DATA_START;
+pub use outcome::{Cause, Stepped};
+pub use task::Task;

@@ -1,0 +1,139 @@
+//! A task: where its text is entered, and where it stands.
+
+ghost use Rattle.std.specs.Prelude.{◌≡◌, ◌+◌, ◌%◌, ◌^◌, ◌<◌, ◌≤◌, IfOk, length};
+ghost use Rattle.tm_task.specs.Standing.{booted_task, answered, args_of, marker_of, IsTask};
+ghost use Rattle.tm_task.specs.Stepped.{Did, Raises};
+ghost use Rattle.tm_marker.specs.Order.{IsBefore};
+
+use crate::Stepped;
+use crate::answer::{begins_epoch, boot_registers, reply};
+use crate::execute::{Executed, execute};
+use crate::perform::read;
+use std::alloc::{AllocError, Global};
+use std::marker::Model;
+use tm_marker::{Body, DataEntry, EPOCH_LENGTH, Items, Marker};
+
+/// One task. Its text is handed to each step, and is at address 0; its data starts at
+/// [`DATA_START`]. A task's marker rises with each instruction that it executes.
+#[derive(Debug, Drop)]
+pub struct Task {
+    entry: u32,
+    body: Body,
+    epoch: u64,
+    count: u32,
+}
+
+impl Model for Task {
+    ghost use Rattle.tm_task.specs.Standing.{TaskView, task_view, IsTask};
+
+    ghost Value = { TaskView };
+
+    ghost view = { λ t. task_view t.entry t.body t.epoch t.count };
+
+    ghost invariant = { λ t. IsTask (task_view t.entry t.body t.epoch t.count) };
+}
+
+impl Task {
+    /// A task at boot, that enters its text at the address `entry` and has these data words.
+    pub fn new(alloc: Global, entry: u32, words: &[u32]) -> Result<Task, AllocError>
+        requires aligned { entry % 4 ≡ 0 }
+        requires within { entry < 65536 }
+        requires some { 0 < length words.now }
+        requires few { length words.now ≤ 16384 }
+        ensures boot { IfOk result (λ task. task ≡ booted_task entry words.now) }
+        ensures task { IfOk result (λ task. IsTask task) }
+    {
+        let count = words.len();
+        let words = Vec::from_slice(alloc, words)?;
+        Ok(Task {
+            entry,
+            body: Body {
+                pc: entry,
+                regs: boot_registers(count),
+                words: Items::from(words),
+            },
+            epoch: 0,
+            count: 0,
+        })
+    }
+
+    /// Executes one instruction of the text.
+    #[inline]
+    #[tactic(auto, using(crate::proofs::Following::goes_on, crate::proofs::Following::calls_inside))]
+    pub fn step(&mut self, text: &[u32]) -> Stepped
+        requires some { 0 < length text.now }
+        requires few { length text.now ≤ 16384 }
+        requires epoch { self.old.standing.epoch < 2 ^ 53 }
+        ensures did { Did text.now self.old result self.new }
+        ensures raised { Raises result self.old.standing self.new.standing }
+        ensures epoch { self.new.standing.epoch ≤ self.old.standing.epoch + 1 }
+        ensures words { length self.new.standing.body.words ≡ length self.old.standing.body.words }
+        ensures task { IsTask self.new }
+    {
+        match execute(&mut self.body, text) {
+            Executed::Went { back: false } => Stepped::Ran,
+            Executed::Went { back: true } => {
+                if self.count + 1 == EPOCH_LENGTH {
+                    self.epoch += 1;
+                    self.count = 0;
+                    Stepped::Forced
+                } else {
+                    self.count += 1;
+                    Stepped::Ran
+                }
+            }
+            Executed::Called(service) => Stepped::Call(service),
+            Executed::Faulted(cause) => Stepped::Fault(cause),
+        }
+    }
+
+    /// What a call hands to its service: the registers a0 to a5.
+    pub fn args(&self) -> [u32; 6]
+        ensures { result ≡ args_of self.now.standing.body }
+    {
+        let body = &self.body;
+        [
+            read(body, 10),
+            read(body, 11),
+            read(body, 12),
+            read(body, 13),
+            read(body, 14),
+            read(body, 15),
+        ]
+    }
+
+    /// The instant at which the task stands.
+    #[inline]
+    pub fn marker(&self) -> Marker
+        ensures { result ≡ marker_of self.now.standing }
+    {
+        Marker {
+            epoch: self.epoch,
+            count: self.count,
+            pc: self.body.pc,
+        }
+    }
+
+    /// The program counter, the registers and the data words.
+    pub fn body(&self) -> &Body
+        ensures value { result.now ≡ self.now.standing.body }
+        ensures task { IsTask self.now }
+    {
+        &self.body
+    }
+
+    /// Resumes the task, which stands at a call, with what the service answered.
+    pub fn answer(&mut self, entry: &DataEntry)
+        requires inside { self.old.standing.body.pc < 65536 }
+        requires epoch { self.old.standing.epoch < 2 ^ 53 }
+        ensures answered { self.new ≡ record self.old { standing = answered self.old.entry self.old.standing entry.now } }
+        ensures raised { IsBefore (marker_of self.old.standing) (marker_of self.new.standing) }
+        ensures task { IsTask self.new }
+    {
+        reply(&mut self.body, self.entry, entry);
+        if begins_epoch(entry) {
+            self.epoch += 1;
+            self.count = 0;
+        }
+    }
+}

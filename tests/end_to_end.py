@@ -1,0 +1,83 @@
+#!/usr/bin/env python3
+"""Runs the built program over real files and compares its status, standard output and standard error.
+
+The cases stand in tests/cases: NAME.tmi and NAME.tmplan with the text that they print, NAME.out. Beside
+them the calls that are refused are written out below. The last line is 'N passed, M failed'."""
+import os
+import subprocess
+import sys
+import tempfile
+
+top = os.path.dirname(os.path.dirname(os.path.abspath(__file__)))
+program = os.path.join(top, "crates", "tm", "out", "tm")
+cases = os.path.join(top, "tests", "cases")
+passed = failed = 0
+
+
+def read(path):
+    with open(path, "rb") as file:
+        return file.read()
+
+
+def check(what, words, status, out, err, folder=cases):
+    """Runs the program with the words in the folder; `out` is bytes, `err` the line or nothing."""
+    global passed, failed
+    run = subprocess.run([program, *words], cwd=folder, capture_output=True, timeout=120)
+    got = (run.returncode, run.stdout, run.stderr)
+    wanted = (status, out, err.encode() + b"\n" if err else b"")
+    if got == wanted:
+        passed += 1
+        return
+    failed += 1
+    print(f"{what}: got {got[0]}, {len(got[1])} bytes, {got[2]!r}; wanted {status}, {len(out)} bytes, {wanted[2]!r}")
+
+
+def check_refusals(folder):
+    """Words, missing files, folders, and files that are not of their form, in a folder with an image and a plan."""
+    with open(os.path.join(folder, "not.tmi"), "wb") as file:
+        file.write(b"\x7fELF\x00\xff\n")
+    os.mkdir(os.path.join(folder, "a_folder"))
+    image, plan = "good.tmi", "good.tmplan"
+    refused = [
+        ("no words", [], 2, "tm: words"),
+        ("one name", ["trace", image], 2, "tm: words"),
+        ("a third name", ["trace", image, plan, plan], 2, "tm: words"),
+        ("a name that begins with a dash", ["trace", "-", plan], 2, "tm: words"),
+        ("an empty name", ["trace", "", plan], 2, "tm: words"),
+        ("an unknown command", ["trase", image, plan], 2, "tm: words"),
+        ("an option beside other words", ["--help", image], 2, "tm: words"),
+        ("a name that is no UTF-8", ["trace", b"\xff\xfe", plan], 2, "tm: words"),
+        ("a missing image", ["trace", "missing.tmi", plan], 3, "tm: read fault"),
+        ("a missing plan", ["trace", image, "missing.tmplan"], 3, "tm: read fault"),
+        ("a folder as the image", ["trace", "a_folder", plan], 3, "tm: read fault"),
+        ("a folder as the plan", ["trace", image, "a_folder"], 3, "tm: read fault"),
+        ("an image that is none", ["trace", "not.tmi", plan], 12, "tm: not built 1"),
+        ("a plan that is none", ["trace", image, "not.tmi"], 12, "tm: not built 2"),
+        ("the image's refusal before the plan's", ["trace", "not.tmi", "missing.tmplan"], 12, "tm: not built 1"),
+    ]
+    for what, words, status, err in refused:
+        check(what, words, status, b"", err, folder)
+
+
+def main():
+    if not os.access(program, os.X_OK):
+        sys.exit(f"{program} is not built: run rt ci first, or ./tm --version")
+    for name in sorted(os.listdir(cases)):
+        if name.endswith(".tmi"):
+            base = name[: -len(".tmi")]
+            check(base, ["trace", name, base + ".tmplan"], 0, read(os.path.join(cases, base + ".out")), "")
+    handover = read(os.path.join(top, "examples", "handover.out"))
+    check("the example", ["trace", "handover.tmi", "handover.tmplan"], 0, handover, "", os.path.join(top, "examples"))
+    with tempfile.TemporaryDirectory() as folder:
+        for name in ("handover.tmi", "handover.tmplan"):
+            with open(os.path.join(folder, name.replace("handover", "good")), "wb") as file:
+                file.write(read(os.path.join(top, "examples", name)))
+        check_refusals(folder)
+    help_run = subprocess.run([program, "--help"], capture_output=True, timeout=120)
+    check("--help", ["--help"], 0, help_run.stdout if b"trace IMAGE PLAN" in help_run.stdout else b"?", "")
+    check("--version", ["--version"], 0, b"tm 0.1.0\n", "")
+    print(f"end to end: {passed} passed, {failed} failed" if failed else f"{passed} passed, {failed} failed")
+    sys.exit(1 if failed else 0)
+
+
+main()
