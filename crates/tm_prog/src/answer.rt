@@ -20,22 +20,21 @@ pub(crate) fn trace_text<F: Shelf>(
     plan: &str,
 ) -> Result<Vec<u8>, Status>
     ensures shelf { OnlyGets F.tells F.content F.gets F.puts F.calm F.room shelf.old shelf.new }
-    ensures printed { IsTrue (F.tells shelf.old) → IfOk result (λ text. trace_answer (F.content shelf.old image.now) (F.content shelf.old plan.now) ≡ Some (Printed text.items)) }
-    ensures refused { IsTrue (F.tells shelf.old) → (file : ℕ) → result ≡ Err (Status.NotBuilt file) → trace_answer (F.content shelf.old image.now) (F.content shelf.old plan.now) ≡ Some (Refused (Status.NotBuilt file)) }
+    ensures printed { IsTrue (F.tells shelf.old) →
+        IfOk result (λ text.
+        trace_answer (F.content shelf.old image.now) (F.content shelf.old plan.now)
+        ≡ Some (Printed text.items)) }
+    ensures refused { IsTrue (F.tells shelf.old) → (file : ℕ) →
+        result ≡ Err (Status.NotBuilt file) →
+        trace_answer (F.content shelf.old image.now) (F.content shelf.old plan.now)
+        ≡ Some (Refused (Status.NotBuilt file)) }
     ensures only { IfErr result (λ status. IsUnreadOf 1 status ⊎ IsUnreadOf 2 status) }
     ensures counted { result ≡ Err Status.ReadFault → Rose (F.gets shelf.old) (F.gets shelf.new) }
-    ensures calm { IsTrue (F.tells shelf.old) → IsTrue (F.calm shelf.old) → IsSome (trace_answer (F.content shelf.old image.now) (F.content shelf.old plan.now)) → result ≢ Err Status.ReadFault }
+    ensures calm { IsTrue (F.tells shelf.old) → IsTrue (F.calm shelf.old) →
+        IsSome (trace_answer (F.content shelf.old image.now) (F.content shelf.old plan.now)) →
+        result ≢ Err Status.ReadFault }
 {
-    let image = match image_file(alloc, shelf, image) {
-        Ok(image) => image,
-        Err(status) => return Err(status),
-    };
-    let plan = match plan_file(alloc, shelf, plan) {
-        Ok(plan) => plan,
-        Err(status) => return Err(status),
-    };
-    match trace(alloc, &image, &plan) {
-        Ok(text) => Ok(text),
-        Err(_) => Err(Status::Memory),
-    }
+    let image = image_file(alloc, shelf, image)?;
+    let plan = plan_file(alloc, shelf, plan)?;
+    trace(alloc, &image, &plan).map_err(|_| Status::Memory)
 }

@@ -22,11 +22,15 @@ fn bytes_of<F: Shelf>(
 ) -> Result<Vec<u8>, Status>
     ensures shelf { OnlyGets F.tells F.content F.gets F.puts F.calm F.room shelf.old shelf.new }
     ensures within { IfOk result (λ bytes. length bytes.items ≤ limit) }
-    ensures found { IsTrue (F.tells shelf.old) → IfOk result (λ bytes. F.content shelf.old name.now ≡ Some bytes.items) }
-    ensures too_long { IsTrue (F.tells shelf.old) → (file : ℕ) → result ≡ Err (Status.NotBuilt file) → IsSomeAnd (F.content shelf.old name.now) (λ bytes. limit < length bytes) }
+    ensures found { IsTrue (F.tells shelf.old) →
+        IfOk result (λ bytes. F.content shelf.old name.now ≡ Some bytes.items) }
+    ensures too_long { IsTrue (F.tells shelf.old) → (file : ℕ) →
+        result ≡ Err (Status.NotBuilt file) →
+        IsSomeAnd (F.content shelf.old name.now) (λ bytes. limit < length bytes) }
     ensures only { IfErr result (IsUnreadOf number) }
     ensures counted { result ≡ Err Status.ReadFault → Rose (F.gets shelf.old) (F.gets shelf.new) }
-    ensures calm { IsTrue (F.tells shelf.old) → IsTrue (F.calm shelf.old) → IsSome (F.content shelf.old name.now) → result ≢ Err Status.ReadFault }
+    ensures calm { IsTrue (F.tells shelf.old) → IsTrue (F.calm shelf.old) →
+        IsSome (F.content shelf.old name.now) → result ≢ Err Status.ReadFault }
 {
     let mut bytes = Vec::new(alloc);
     match shelf.get(name, limit, &mut bytes) {
@@ -54,37 +58,35 @@ pub(crate) fn image_file<F: Shelf>(
     name: &str,
 ) -> Result<Image, Status>
     ensures shelf { OnlyGets F.tells F.content F.gets F.puts F.calm F.room shelf.old shelf.new }
-    ensures read { IsTrue (F.tells shelf.old) → IfOk result (λ image. IsSomeAnd (F.content shelf.old name.now) (λ bytes. image_in bytes ≡ Some image)) }
-    ensures refused { IsTrue (F.tells shelf.old) → (file : ℕ) → result ≡ Err (Status.NotBuilt file) → IsSomeAnd (F.content shelf.old name.now) (λ bytes. image_in bytes ≡ None) }
+    ensures read { IsTrue (F.tells shelf.old) →
+        IfOk result (λ image.
+        IsSomeAnd (F.content shelf.old name.now) (λ bytes. image_in bytes ≡ Some image)) }
+    ensures refused { IsTrue (F.tells shelf.old) → (file : ℕ) →
+        result ≡ Err (Status.NotBuilt file) →
+        IsSomeAnd (F.content shelf.old name.now) (λ bytes. image_in bytes ≡ None) }
     ensures only { IfErr result (IsUnreadOf 1) }
     ensures counted { result ≡ Err Status.ReadFault → Rose (F.gets shelf.old) (F.gets shelf.new) }
-    ensures calm { IsTrue (F.tells shelf.old) → IsTrue (F.calm shelf.old) → IsSome (F.content shelf.old name.now) → result ≢ Err Status.ReadFault }
+    ensures calm { IsTrue (F.tells shelf.old) → IsTrue (F.calm shelf.old) →
+        IsSome (F.content shelf.old name.now) → result ≢ Err Status.ReadFault }
 {
-    let bytes = match bytes_of(alloc, shelf, name, IMAGE_LIMIT, 1) {
-        Ok(bytes) => bytes,
-        Err(status) => return Err(status),
-    };
-    match read_image(alloc, bytes.as_slice()) {
-        Ok(image) => Ok(image),
-        Err(fault) => Err(unread(fault, 1)),
-    }
+    let bytes = bytes_of(alloc, shelf, name, IMAGE_LIMIT, 1)?;
+    read_image(alloc, bytes.as_slice()).map_err(|fault| unread(fault, 1))
 }
 
 /// The plan in the second file.
 pub(crate) fn plan_file<F: Shelf>(alloc: Global, shelf: &mut F, name: &str) -> Result<Plan, Status>
     ensures shelf { OnlyGets F.tells F.content F.gets F.puts F.calm F.room shelf.old shelf.new }
-    ensures read { IsTrue (F.tells shelf.old) → IfOk result (λ plan. IsSomeAnd (F.content shelf.old name.now) (λ bytes. script_in bytes ≡ Some plan)) }
-    ensures refused { IsTrue (F.tells shelf.old) → (file : ℕ) → result ≡ Err (Status.NotBuilt file) → IsSomeAnd (F.content shelf.old name.now) (λ bytes. script_in bytes ≡ None) }
+    ensures read { IsTrue (F.tells shelf.old) →
+        IfOk result (λ plan.
+        IsSomeAnd (F.content shelf.old name.now) (λ bytes. script_in bytes ≡ Some plan)) }
+    ensures refused { IsTrue (F.tells shelf.old) → (file : ℕ) →
+        result ≡ Err (Status.NotBuilt file) →
+        IsSomeAnd (F.content shelf.old name.now) (λ bytes. script_in bytes ≡ None) }
     ensures only { IfErr result (IsUnreadOf 2) }
     ensures counted { result ≡ Err Status.ReadFault → Rose (F.gets shelf.old) (F.gets shelf.new) }
-    ensures calm { IsTrue (F.tells shelf.old) → IsTrue (F.calm shelf.old) → IsSome (F.content shelf.old name.now) → result ≢ Err Status.ReadFault }
+    ensures calm { IsTrue (F.tells shelf.old) → IsTrue (F.calm shelf.old) →
+        IsSome (F.content shelf.old name.now) → result ≢ Err Status.ReadFault }
 {
-    let bytes = match bytes_of(alloc, shelf, name, PLAN_LIMIT, 2) {
-        Ok(bytes) => bytes,
-        Err(status) => return Err(status),
-    };
-    match read_plan(alloc, bytes.as_slice()) {
-        Ok(plan) => Ok(plan),
-        Err(fault) => Err(unread(fault, 2)),
-    }
+    let bytes = bytes_of(alloc, shelf, name, PLAN_LIMIT, 2)?;
+    read_plan(alloc, bytes.as_slice()).map_err(|fault| unread(fault, 2))
 }

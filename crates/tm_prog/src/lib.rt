@@ -36,7 +36,9 @@ use write::write_all;
 pub fn tm<F: Shelf, K: Sink>(alloc: Global, words: &[String], shelf: &mut F, out: &mut K) -> Status
     // The words alone decide whether they are refused.
     ensures words { (result ≡ Status.Words) ↔ (command_of (texts words.now) ≡ None) }
-    ensures answer { IsTrue (F.tells shelf.old) → Answers result (K.bytes out.old) (K.bytes out.new) (answer_of (command_of (texts words.now)) (F.content shelf.old)) }
+    ensures answer { IsTrue (F.tells shelf.old) →
+        Answers result (K.bytes out.old) (K.bytes out.new)
+        (answer_of (command_of (texts words.now)) (F.content shelf.old)) }
     ensures files { (file : ℕ) → result ≡ Status.NotBuilt file → (file ≡ 1) ⊎ (file ≡ 2) }
 
     // A fault is answered only where its count rose in this call.
@@ -55,11 +57,19 @@ pub fn tm<F: Shelf, K: Sink>(alloc: Global, words: &[String], shelf: &mut F, out
     ensures gets_never_fall { F.gets shelf.old ≤ F.gets shelf.new }
 
     // A calm shelf that has the files which the answer needs meets no fault of reading.
-    ensures found { IsTrue (F.tells shelf.old) → IsTrue (F.calm shelf.old) → IsSome (answer_of (command_of (texts words.now)) (F.content shelf.old)) → result ≢ Status.ReadFault }
+    ensures found { IsTrue (F.tells shelf.old) → IsTrue (F.calm shelf.old) →
+        IsSome (answer_of (command_of (texts words.now)) (F.content shelf.old)) →
+        result ≢ Status.ReadFault }
 
-    // A text is printed in a quiet call: where no count rose, and where all was ready from the start.
-    ensures undisturbed { IsTrue (F.tells shelf.old) → (text : List ℕ) → answer_of (command_of (texts words.now)) (F.content shelf.old) ≡ Some (Printed text) → NoneRose (F.gets shelf.old) (F.gets shelf.new) (K.faults out.old) (K.faults out.new) → IsDone result }
-    ensures ready { IsTrue (F.tells shelf.old) → (text : List ℕ) → answer_of (command_of (texts words.now)) (F.content shelf.old) ≡ Some (Printed text) → IsReady (F.calm shelf.old) (K.bytes out.old) (K.calm out.old) (K.room out.old) text → IsDone result }
+    // A text is printed where the call is quiet: no count rose in it, or all was ready before it.
+    ensures undisturbed { IsTrue (F.tells shelf.old) → (text : List ℕ) →
+        answer_of (command_of (texts words.now)) (F.content shelf.old) ≡ Some (Printed text) →
+        NoneRose (F.gets shelf.old) (F.gets shelf.new) (K.faults out.old) (K.faults out.new) →
+        IsDone result }
+    ensures ready { IsTrue (F.tells shelf.old) → (text : List ℕ) →
+        answer_of (command_of (texts words.now)) (F.content shelf.old) ≡ Some (Printed text) →
+        IsReady (F.calm shelf.old) (K.bytes out.old) (K.calm out.old) (K.room out.old) text →
+        IsDone result }
 {
     let text = match form_of(words) {
         Some(Form::Trace { image, plan }) => trace_text(alloc, shelf, image, plan),
@@ -74,3 +84,6 @@ pub fn tm<F: Shelf, K: Sink>(alloc: Global, words: &[String], shelf: &mut F, out
         Err(_) => Status::WriteFault,
     }
 }
+
+#[cfg(test)]
+mod tests;

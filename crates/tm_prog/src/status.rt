@@ -63,3 +63,39 @@ fn line_of_not_built(file: u8, into: &mut Vec<u8>) -> Result<(), AllocError>
     let line = format!(in alloc; "tm: not built {file}\n")?;
     into.extend_from_slice(line.as_bytes())
 }
+
+#[cfg(test)]
+mod tests {
+    use super::*;
+    use std::test::Fail;
+
+    #[test]
+    fn each_status_but_ok_has_its_line(rt: HostRuntime) -> Result<(), Fail> {
+        let mut lines = Vec::new(rt.alloc());
+        for status in [
+            Status::Ok,
+            Status::Words,
+            Status::ReadFault,
+            Status::NotBuilt(2),
+            Status::WriteFault,
+            Status::Memory,
+        ] {
+            status.line(&mut lines)?;
+        }
+        assert_eq!(rt;
+            lines.as_slice(),
+            b"tm: words\ntm: read fault\ntm: not built 2\ntm: write fault\ntm: memory\n".as_slice()
+        );
+        Ok(())
+    }
+
+    #[test]
+    fn each_status_has_its_number(rt: HostRuntime) {
+        assert_eq!(rt; Status::Ok.code(), 0);
+        assert_eq!(rt; Status::Words.code(), 2);
+        assert_eq!(rt; Status::ReadFault.code(), 3);
+        assert_eq!(rt; Status::WriteFault.code(), 9);
+        assert_eq!(rt; Status::Memory.code(), 11);
+        assert_eq!(rt; Status::NotBuilt(1).code(), 12);
+    }
+}

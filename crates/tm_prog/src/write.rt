@@ -14,7 +14,8 @@ pub(crate) fn write_all<K: Sink>(out: &mut K, text: &[u8]) -> Result<(), Failed>
     ensures counted { OnErr result (Rose (K.faults out.old) (K.faults out.new)) }
     ensures never_falls { K.faults out.old ≤ K.faults out.new }
     ensures calm_stays { K.calm out.new ≡ K.calm out.old }
-    ensures quiet { IsSome (K.bytes out.old) → IsTrue (K.calm out.old) → length text.now ≤ K.room out.old → IsOk result }
+    ensures quiet { IsSome (K.bytes out.old) → IsTrue (K.calm out.old) →
+        length text.now ≤ K.room out.old → IsOk result }
 {
     let mut done = 0;
     while done < text.len() {
