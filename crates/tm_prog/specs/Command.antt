@@ -1,8 +1,6 @@
 -- What the words of a call ask for.
 use Rattle.std.specs.Prelude.{ℕ, Bool, false, not, ◌&&◌, ◌==◌, if◌then◌else◌, List, [], ◌∷◌, map, codes, bytes_eq, String, string_bytes, Option, Some, None}
 use Rattle.std.specs.declared.alloc.Global.{Global}
-use Rattle.tm_prog.specs.declared.words.Form.{Form}
-use Rattle.tm_prog.specs.declared.words.Form.TheVariants as form
 
 -- what the program can be asked for
 pub data Command : Type 0 where
@@ -23,7 +21,3 @@ abbrev pub command_of : List (List ℕ) → Option Command
 command_of (word ∷ image ∷ plan ∷ []) =
     if bytes_eq word (codes "trace") && is_name image && is_name plan then Some (Trace image plan) else None
 command_of _ = None
-
--- the command of a form that code found
-abbrev pub asked : Form → Command
-asked (form.Trace image plan) = Trace image.now plan.now

@@ -1,3 +1,5 @@
+//! Whole calls over a shelf and a sink in memory.
+
 use super::*;
 use std::alloc::AllocError;
 use std::test::Fail;

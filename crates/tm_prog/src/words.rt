@@ -1,7 +1,8 @@
 //! How the words of a call are read.
 
 ghost use Rattle.std.specs.Prelude.{◌≡◌, option_map};
-ghost use Rattle.tm_prog.specs.Command.{command_of, is_name, asked, texts};
+ghost use Rattle.tm_prog.specs.Command.{command_of, is_name, texts};
+ghost use Rattle.tm_prog.specs.Reading.{asked};
 
 /// What the words ask for.
 #[derive(Clone, Copy)]
