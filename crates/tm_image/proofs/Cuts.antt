@@ -35,7 +35,7 @@ whole x [] h = whole_more (is_line_end x) x [] 0 h (λ _. refl)
 whole x (y ∷ ys) h = whole_more (is_line_end x) x (y ∷ ys) (end_of (y ∷ ys)) h (λ k. ap (onto_first x) (whole y ys k))
 
 -- the rest of a slice, as the code cuts it
-rest_of : (n : ℕ) (xs : List ℕ) → take (length xs - n) (drop n xs) ≡ drop n xs
+rest_of : {X : Type 0} (n : ℕ) (xs : List X) → take (length xs - n) (drop n xs) ≡ drop n xs
 rest_of n xs = grind (arith, common_steps)
 
 pub first_line : (xs : List ℕ) (end : ℕ) (found : Bool)

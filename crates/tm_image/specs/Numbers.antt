@@ -44,3 +44,11 @@ abbrev pub mask_in : List ℕ → Option ℕ
 mask_in [] = None
 mask_in (c ∷ []) = then_some (c == 48) 0
 mask_in (c ∷ x ∷ digits) = if c == 48 && x == 120 then hex_in 1 4 digits else None
+
+-- what each of the tokens spells
+abbrev pub all_in : (List ℕ → Option ℕ) → List (List ℕ) → Option (List ℕ)
+all_in spelled [] = Some []
+all_in spelled (token ∷ rest) = do
+  n ← spelled token
+  ns ← all_in spelled rest
+  Some (n ∷ ns)

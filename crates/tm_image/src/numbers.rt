@@ -1,10 +1,12 @@
 //! The spelling of numbers and words.
 
-ghost use Rattle.std.specs.Prelude.{◌≡◌, ◌<◌, ◌≤◌, ◌^◌, length, IfOk};
+ghost use Rattle.std.specs.Prelude.{◌≡◌, ◌<◌, ◌≤◌, ◌^◌, length, map, IfOk};
 ghost use Rattle.tm_image.specs.Steps.{Gives};
-ghost use Rattle.tm_image.specs.Numbers.{digit_in, hex_digit_in, number_in, hex_in, word_in, mask_in};
+ghost use Rattle.tm_image.specs.Numbers.{digit_in, hex_digit_in, number_in, hex_in, word_in, mask_in, all_in};
 
 use crate::Unread;
+use std::alloc::Global;
+use tm_marker::Items;
 
 /// The value of a decimal digit.
 fn digit_at(c: u8) -> Result<u8, Unread>
@@ -76,4 +78,15 @@ pub(crate) fn mask_at(token: &[u8]) -> Result<u32, Unread>
         [b'0', b'x', digits @ ..] => hex_at(1, 4, digits),
         _ => Err(Unread::NotSmall),
     }
+}
+
+/// The words that the tokens spell.
+pub(crate) fn words_at(alloc: Global, tokens: &[&[u8]]) -> Result<Items<u32>, Unread>
+    ensures { Gives (λ words. words) result (all_in word_in (map (λ token. token.now) tokens.now)) }
+{
+    let mut words = Items::new(alloc);
+    for token in tokens {
+        words.push(word_at(token)?)?;
+    }
+    Ok(words)
 }

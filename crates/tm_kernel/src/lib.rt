@@ -15,3 +15,6 @@ pub use spec::{Action, KernelSpec, LINES, TaskSpec};
 pub use status::{
     E_OK, E_OS_ACCESS, E_OS_ID, E_OS_LIMIT, E_OS_NOFUNC, E_OS_RESOURCE, E_OS_STATE, E_OS_VALUE,
 };
+
+#[cfg(test)]
+mod tests;

@@ -91,7 +91,7 @@ same_find w (r ∷ rs) small regular =
     let rest = same_find w rs small (and_parts _ _ regular).1 in
     rw (here, rest)
 
-pub op_of_is : (word : ℕ) → word < 2 ^ 32 →
+op_of_is : (word : ℕ) → word < 2 ^ 32 →
     op_of word ≡ op_by (bit_and word 0x7f) (bit_and (word / 2 ^ 12) 7) (word / 2 ^ 25) word
 unfolding op_of
 op_of_is word small = ap (option_map (λ (r : Row). r.op)) (same_find word rows small refl)

@@ -1,8 +1,7 @@
 //! From a word to the instruction that it is.
 
-ghost use Rattle.std.specs.Prelude.{◌≡◌, ℕ, ◌^◌, ◌<◌, ◌≢◌, ◌⊎◌, IfSome};
-ghost use Rattle.tm_rv.specs.Table.{row_for, IType, SType, BType, RType, ShiftType, WordType};
-ghost use Rattle.tm_rv.specs.ByFields.{op_by, instr_by};
+ghost use Rattle.std.specs.Prelude.{◌≡◌, ℕ, ◌^◌, ◌<◌, IfSome};
+ghost use Rattle.tm_rv.specs.ByFields.{instr_by};
 ghost use Rattle.tm_rv.specs.Instr.{instr_of, IsRegister, IsEncodable};
 
 use crate::formats::{

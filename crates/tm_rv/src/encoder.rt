@@ -1,6 +1,6 @@
 //! From an instruction to the word that means it.
 
-ghost use Rattle.std.specs.Prelude.{◌≡◌, ℕ, ◌+◌, ◌*◌, ◌^◌, ◌<◌, Some};
+ghost use Rattle.std.specs.Prelude.{◌≡◌, ℕ, ◌^◌, ◌<◌};
 ghost use Rattle.tm_rv.specs.Table.{row_for, BType, JType};
 ghost use Rattle.tm_rv.specs.Instr.{instr_of, IsEncodable};
 ghost use Rattle.tm_rv.specs.Word.{placed};

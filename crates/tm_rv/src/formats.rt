@@ -1,7 +1,7 @@
 //! A word taken apart by each format (2.2 "Base Instruction Formats", 2.3 "Immediate Encoding
 //! Variants").
 
-ghost use Rattle.std.specs.Prelude.{◌≡◌, ℕ, ◌+◌, ◌-◌, ◌*◌, ◌/◌, ◌%◌, ◌^◌, ◌<◌, ◌≤◌};
+ghost use Rattle.std.specs.Prelude.{◌≡◌, ◌^◌, ◌<◌};
 ghost use Rattle.tm_rv.specs.Table.{RType, IType, SType, BType, UType, JType, ShiftType, WordType};
 ghost use Rattle.tm_rv.specs.Instr.{sign_extend, rd_of, rs1_of, rs2_of, instr, split};
 

@@ -3,7 +3,12 @@
 //! Instruction Set, Version 2.1").
 //!
 //! [`decode`] reads a word as an [`Instr`], which names its operation, an [`Op`], and the fields
-//! that the operation's format has.
+//! that the operation's format has. [`encode`] is its inverse: each instruction whose fields are in
+//! range has exactly one word. [`name`] tells how the operation is written.
+//!
+//! The table is the list `rows` in `specs/Table.antt`. A word belongs to the row whose mask leaves
+//! the row's bits, and [`no_word_in_two_rows`] says that this is one row at most. The code looks at
+//! opcode, funct3 and funct7 instead.
 #![tactic(auto)]
 
 mod bits;
@@ -19,3 +24,6 @@ pub use encoder::encode;
 pub use instr::{Instr, Op};
 pub use names::name;
 pub use table::no_word_in_two_rows;
+
+#[cfg(test)]
+mod tests;

@@ -26,7 +26,7 @@ booted task = record { task = task; at = zero_marker; regs = registers 0 0 0; ch
 abbrev pub preempted_block : Block
 preempted_block = record {
   seq = 2;
-  switch = record { «from» = 0; kind = Preempted; from_at = marker 0 5 0; to = 1; to_at = zero_marker };
+  switch = record { from = 0; kind = Preempted; from_at = marker 0 5 0; to = 1; to_at = zero_marker };
   leave = Some (record {
     cause = 0;
     view = record { task = 0; at = marker 0 5 0; regs = registers 0 0 0; changed = [] };
@@ -38,7 +38,7 @@ preempted_block = record {
 abbrev pub fault_block : Block
 fault_block = record {
   seq = 2;
-  switch = record { «from» = 0; kind = Fault; from_at = zero_marker; to = 255; to_at = zero_marker };
+  switch = record { from = 0; kind = Fault; from_at = zero_marker; to = 255; to_at = zero_marker };
   leave = Some (record { cause = 6; view = booted 0; outputs = [] });
 }
 
@@ -46,7 +46,7 @@ fault_block = record {
 abbrev pub idle_block : Block
 idle_block = record {
   seq = 1;
-  switch = record { «from» = 255; kind = Idle; from_at = zero_marker; to = 0; to_at = zero_marker };
+  switch = record { from = 255; kind = Idle; from_at = zero_marker; to = 0; to_at = zero_marker };
   leave = None;
 }
 

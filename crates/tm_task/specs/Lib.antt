@@ -6,3 +6,4 @@ pub mod Does
 pub mod Standing
 pub mod Stepped
 pub mod Place
+pub mod PlaceLaws

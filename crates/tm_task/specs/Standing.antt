@@ -69,14 +69,16 @@ is_end d = (d.service == 2 || d.service == 3) && d.status == 0
 abbrev pub begins_epoch : DataEntry → Bool
 begins_epoch d = (d.service == 2 || d.service == 3 || d.service == 11) && d.status == 0
 
--- what an answer leaves of the caller's body: its boot values after an end, else the status in a0, the
--- words in a1 to a4, and the next instruction
-abbrev pub reply : ℕ → Body → DataEntry → Body
-reply entry b d =
-    if is_end d then restarted entry b
-    else advanced
+-- the status in a0, the words in a1 to a4, and the next instruction
+abbrev pub resumed : Body → DataEntry → Body
+resumed b d =
+    advanced
     (with_reg (with_reg (with_reg (with_reg (with_reg b 10 d.status)
     11 (slice_index d.words 0)) 12 (slice_index d.words 1)) 13 (slice_index d.words 2)) 14 (slice_index d.words 3))
+
+-- what an answer leaves of the caller's body: its boot values after an end, else what resumes it
+abbrev pub reply : ℕ → Body → DataEntry → Body
+reply entry b d = if is_end d then restarted entry b else resumed b d
 
 -- the standing after an answer
 abbrev pub answered : ℕ → Standing → DataEntry → Standing

@@ -104,13 +104,17 @@ pub(crate) fn advance(body: &mut Body) -> Executed
     Executed::Went { back: false }
 }
 
+/// Writes a register and goes to the next instruction. The program counter is read before the
+/// write, so that it needn't be read again after it.
 #[inline]
 fn write(body: &mut Body, rd: u8, value: u32) -> Executed
     requires { IsRegister rd }
     ensures { Does (written body.old rd value) body.old body.new result }
 {
+    let next = body.pc.wrapping_add(4);
     put(body, rd, value);
-    advance(body)
+    body.pc = next;
+    Executed::Went { back: false }
 }
 
 #[inline]
@@ -210,8 +214,10 @@ fn store(text: &[u32], body: &mut Body, address: u32, size: u32, value: u32) -> 
     }
     let index = data_index(address);
     let word = splice(body.words.at(index), address % 4, size, value);
+    let next = body.pc.wrapping_add(4);
     body.words.set(index, word);
-    advance(body)
+    body.pc = next;
+    Executed::Went { back: false }
 }
 
 /// The number without its bit 0.

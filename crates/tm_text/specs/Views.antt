@@ -30,4 +30,5 @@ last_of running track state = record {
 abbrev pub lasts_of : ℕ → List Track → List ℕ → List Last
 lasts_of running [] states = []
 lasts_of running (track ∷ tracks) [] = []
-lasts_of running (track ∷ tracks) (state ∷ states) = last_of running track state ∷ lasts_of running tracks states
+lasts_of running (track ∷ tracks) (state ∷ states) =
+    last_of running track state ∷ lasts_of running tracks states

@@ -8,6 +8,8 @@
 mod differences;
 mod lines;
 mod seen;
+#[cfg(test)]
+mod tests;
 mod values;
 mod words;
 mod write;

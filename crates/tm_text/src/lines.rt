@@ -1,25 +1,7 @@
 //! The printed lines, one function each.
 
-ghost use Rattle.std.specs.Prelude.{◌≡◌, ℕ, ◌+◌, ◌++◌, ◌<◌, codes, decimal, flat_map, OnOk};
-ghost use Rattle.tm_spelling.specs.Lines.{
-  hex8,
-  who,
-  marker_text,
-  kind_name,
-  state_name,
-  ending_name,
-  line,
-  start_line,
-  task_line,
-  state_line,
-  regs_line,
-  data_line,
-  out_line,
-  switch_line,
-  at_line,
-  cause_line,
-  end_line,
-};
+ghost use Rattle.std.specs.Prelude.{◌≡◌, ◌++◌, OnOk};
+ghost use Rattle.tm_spelling.specs.Lines.{start_line, task_line, state_line, data_line, out_line, switch_line, at_line, cause_line, end_line};
 ghost use Rattle.tm_text.specs.Prefix.{Keeps};
 
 use crate::words::{

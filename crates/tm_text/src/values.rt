@@ -1,6 +1,6 @@
 //! The lines of a task's registers, of its data words and of its outputs.
 
-ghost use Rattle.std.specs.Prelude.{◌≡◌, ◌+◌, ◌++◌, ◌==◌, ◌<◌, ◌≤◌, length, codes, decimal, flat_map, if◌then◌else◌, [], OnOk};
+ghost use Rattle.std.specs.Prelude.{◌≡◌, ◌++◌, codes, decimal, flat_map, OnOk};
 ghost use Rattle.tm_spelling.specs.Lines.{hex8, registers_from, regs_line, data_line, out_line};
 ghost use Rattle.tm_spelling.specs.Story.{values_text};
 ghost use Rattle.tm_text.specs.Prefix.{Keeps};

@@ -1,6 +1,6 @@
 //! The words of which the printed lines are made.
 
-ghost use Rattle.std.specs.Prelude.{◌≡◌, ◌++◌, ◌<◌, decimal, codes, OnOk};
+ghost use Rattle.std.specs.Prelude.{◌≡◌, ◌++◌, ◌<◌, decimal, OnOk};
 ghost use Rattle.tm_spelling.specs.Lines.{digit, hex8, who, marker_text, kind_name, state_name, ending_name};
 ghost use Rattle.tm_text.specs.Prefix.{Keeps};
 

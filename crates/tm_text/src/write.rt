@@ -1,21 +1,6 @@
 //! The blocks of a printed text: its start, each control entry, its end.
 
-ghost use Rattle.std.specs.Prelude.{
-  ◌≡◌,
-  ◌↔◌,
-  ◌++◌,
-  ◌≤◌,
-  length,
-  map,
-  take,
-  flat_map,
-  option_map,
-  option_copied,
-  All,
-  IsNone,
-  OnOk,
-  OnErr,
-};
+ghost use Rattle.std.specs.Prelude.{◌≡◌, ◌↔◌, ◌++◌, ◌≤◌, length, map, flat_map, option_copied, All, IsNone, OnOk, OnErr};
 ghost use Rattle.tm_marker.specs.declared.tail.TheConstants.{NOBODY};
 ghost use Rattle.tm_spelling.specs.Story.{
   start_view_text,
@@ -37,15 +22,17 @@ use crate::{Seen, Stop, Track};
 use std::alloc::AllocError;
 use tm_marker::{Switch, Tail};
 
-/// Appends the block of the start: the point `from` that the text begins from, who runs there, or
-/// [`tm_marker::NOBODY`], and each task as it stands there. On want of memory the text is as before.
+/// Appends the block of the start: the point `from` that the text begins from, who runs there or
+/// [`tm_marker::NOBODY`], and each task as it stands there. On want of memory the text is as
+/// before.
 pub fn write_start(
     from: u64,
     running: u8,
     seen: &[Seen],
     into: &mut Vec<u8>,
 ) -> Result<(), AllocError>
-    ensures ok { OnOk result (into.new.items ≡ into.old.items ++ start_text from running (map view_of seen.now)) }
+    ensures ok { OnOk result (into.new.items ≡ into.old.items ++
+        start_text from running (map view_of seen.now)) }
     ensures err { OnErr result (into.new.items ≡ into.old.items) }
 {
     let length = into.len();
@@ -57,7 +44,8 @@ pub fn write_start(
 }
 
 /// Appends the block of a control entry, which is number `seq` from 1, and how the task that it
-/// comes from left. On want of memory the text is as before.
+/// comes from left: no stop is given where it comes from nobody. On want of memory the text is as
+/// before.
 pub fn write_stop(
     seq: u64,
     switch: &Switch,
@@ -65,7 +53,8 @@ pub fn write_stop(
     into: &mut Vec<u8>,
 ) -> Result<(), AllocError>
     requires { IsNone stop ↔ (switch.now.from ≡ NOBODY) }
-    ensures ok { OnOk result (into.new.items ≡ into.old.items ++ block_text (block_of seq switch.now (option_copied stop.entry))) }
+    ensures ok { OnOk result (into.new.items ≡ into.old.items ++
+        block_text (block_of seq switch.now (option_copied stop.entry))) }
     ensures err { OnErr result (into.new.items ≡ into.old.items) }
 {
     let length = into.len();
@@ -77,15 +66,16 @@ pub fn write_stop(
 }
 
 /// Appends the block of the end: who runs there, how the run stands, and each task with its
-/// state. The outputs of the running task alone are printed. On want of memory the text is as
-/// before.
+/// state, in the order of the tracks. The outputs of the running task alone are printed. On want of
+/// memory the text is as before.
 pub fn write_end(tail: &Tail, tracks: &[Track], into: &mut Vec<u8>) -> Result<(), AllocError>
     requires markers { length tail.now.at ≡ length tracks.now }
     requires states { length tail.now.state ≡ length tracks.now }
     requires ending { tail.now.ended ≤ 2 }
     requires named { All (λ state. state ≤ 3) tail.now.state }
     ensures ok { OnOk result (into.new.items ≡ into.old.items ++
-        end_text tail.now.running tail.now.ended (lasts_of tail.now.running tracks.now tail.now.state)) }
+        end_text tail.now.running tail.now.ended
+        (lasts_of tail.now.running tracks.now tail.now.state)) }
     ensures err { OnErr result (into.new.items ≡ into.old.items) }
 {
     let length = into.len();
@@ -97,7 +87,8 @@ pub fn write_end(tail: &Tail, tracks: &[Track], into: &mut Vec<u8>) -> Result<()
 }
 
 fn put_start(from: u64, running: u8, seen: &[Seen], into: &mut Vec<u8>) -> Result<(), AllocError>
-    ensures ok { OnOk result (into.new.items ≡ into.old.items ++ start_text from running (map view_of seen.now)) }
+    ensures ok { OnOk result (into.new.items ≡ into.old.items ++
+        start_text from running (map view_of seen.now)) }
     ensures keeps { Keeps into.old.items into.new.items }
 {
     put_start_line(from, running, into)?;
@@ -105,7 +96,8 @@ fn put_start(from: u64, running: u8, seen: &[Seen], into: &mut Vec<u8>) -> Resul
 }
 
 fn put_start_views(seen: &[Seen], into: &mut Vec<u8>) -> Result<(), AllocError>
-    ensures ok { OnOk result (into.new.items ≡ into.old.items ++ flat_map start_view_text (map view_of seen.now)) }
+    ensures ok { OnOk result (into.new.items ≡ into.old.items ++
+        flat_map start_view_text (map view_of seen.now)) }
     ensures keeps { Keeps into.old.items into.new.items }
 {
     for task in seen {
@@ -115,7 +107,8 @@ fn put_start_views(seen: &[Seen], into: &mut Vec<u8>) -> Result<(), AllocError>
 }
 
 fn put_start_view(seen: &Seen, into: &mut Vec<u8>) -> Result<(), AllocError>
-    ensures ok { OnOk result (into.new.items ≡ into.old.items ++ start_view_text (view_of seen.now)) }
+    ensures ok { OnOk result (into.new.items ≡ into.old.items ++
+        start_view_text (view_of seen.now)) }
     ensures keeps { Keeps into.old.items into.new.items }
 {
     put_task_line(seen.task, seen.at, into)?;
@@ -128,7 +121,8 @@ fn put_block(
     stop: Option<&Stop>,
     into: &mut Vec<u8>,
 ) -> Result<(), AllocError>
-    ensures ok { OnOk result (into.new.items ≡ into.old.items ++ block_text (block_of seq switch.now (option_copied stop.entry))) }
+    ensures ok { OnOk result (into.new.items ≡ into.old.items ++
+        block_text (block_of seq switch.now (option_copied stop.entry))) }
     ensures keeps { Keeps into.old.items into.new.items }
 {
     put_switch_line(seq, switch, into)?;
@@ -139,7 +133,8 @@ fn put_block(
 }
 
 fn put_leave(stop: &Stop, into: &mut Vec<u8>) -> Result<(), AllocError>
-    ensures ok { OnOk result (into.new.items ≡ into.old.items ++ leave_text (Some (leave_of stop.now))) }
+    ensures ok { OnOk result (into.new.items ≡ into.old.items ++
+        leave_text (Some (leave_of stop.now))) }
     ensures keeps { Keeps into.old.items into.new.items }
 {
     put_at_line(stop.seen.at, into)?;
@@ -153,7 +148,8 @@ fn put_leave(stop: &Stop, into: &mut Vec<u8>) -> Result<(), AllocError>
 fn put_end(tail: &Tail, tracks: &[Track], into: &mut Vec<u8>) -> Result<(), AllocError>
     requires { length tail.now.state ≡ length tracks.now }
     ensures ok { OnOk result (into.new.items ≡ into.old.items ++
-        end_text tail.now.running tail.now.ended (lasts_of tail.now.running tracks.now tail.now.state)) }
+        end_text tail.now.running tail.now.ended
+        (lasts_of tail.now.running tracks.now tail.now.state)) }
     ensures keeps { Keeps into.old.items into.new.items }
 {
     put_end_line(tail.running, tail.ended, into)?;
@@ -167,7 +163,8 @@ fn put_lasts(
     into: &mut Vec<u8>,
 ) -> Result<(), AllocError>
     requires { length states.now ≡ length tracks.now }
-    ensures ok { OnOk result (into.new.items ≡ into.old.items ++ flat_map last_text (lasts_of running tracks.now states.now)) }
+    ensures ok { OnOk result (into.new.items ≡ into.old.items ++
+        flat_map last_text (lasts_of running tracks.now states.now)) }
     ensures keeps { Keeps into.old.items into.new.items }
 {
     for (index, track) in tracks.iter().enumerate() {
@@ -177,7 +174,8 @@ fn put_lasts(
 }
 
 fn put_last(running: u8, track: &Track, state: u8, into: &mut Vec<u8>) -> Result<(), AllocError>
-    ensures ok { OnOk result (into.new.items ≡ into.old.items ++ last_text (last_of running track.now state)) }
+    ensures ok { OnOk result (into.new.items ≡ into.old.items ++
+        last_text (last_of running track.now state)) }
     ensures keeps { Keeps into.old.items into.new.items }
 {
     let last = &track.last;

@@ -47,7 +47,6 @@ impl Kernel {
         ensures sound { IsKernel self.new }
     {
         self.pause();
-        self.running = NOBODY;
         self.ended = if fault { 1 } else { 2 };
     }
 

@@ -1,0 +1,370 @@
+-- Each moment of the machine is the run's.
+use Rattle.std.proofs.Common.{◌≡◌, ◌≢◌, ℕ, ◌+◌, ◌^◌, ◌<◌, ◌≤◌, Bool, true, false, ◌&&◌, ◌||◌, not, ◌==◌, if◌then◌else◌, List, [], ◌∷◌, length, refl, subst, ap, sym, ◌∙◌, inl, inr, arith, Option, Some, None, is_some, IfSome, slice_get, slice_set, length-set, unwrap_or, map, All}
+use Rattle.std.proofs.lemmas.Bool.{cases_Bool, cases_eq, eq-eqb, ne_eqb}
+use Rattle.std.proofs.lemmas.Option.{slice_get_within, same_Some}
+use Rattle.tm_marker.specs.declared.body.Body.{Body}
+use Rattle.tm_marker.specs.declared.entries.DataEntry.{DataEntry}
+use Rattle.tm_marker.specs.declared.entries.OutputEntry.{OutputEntry}
+use Rattle.tm_marker.specs.declared.entries.Switch.{Switch}
+use Rattle.tm_marker.specs.declared.entries.Kind.{Kind}
+use Rattle.tm_marker.specs.declared.entries.Kind.TheVariants.{Fault}
+use Rattle.tm_marker.specs.declared.marker.TheConstants.{EPOCH_LENGTH}
+use Rattle.tm_task.specs.declared.outcome.Cause.{Cause}
+use Rattle.tm_task.specs.Exec.{Exec, Faults, Calls, Goes, exec}
+use Rattle.tm_task.specs.Standing.{Standing, TaskView, went, is_full, answered, begins_epoch, reply, args_of}
+use Rattle.tm_task.specs.Stepped.{Went, DidRun, DidForce}
+use Rattle.tm_kernel.specs.State.{KernelState, IsKernel, IsRunning, nobody}
+use Rattle.tm_kernel.specs.Service.{Answered, answer}
+use Rattle.tm_kernel.specs.Schedule.{rescheduled, arrived, stopped}
+use Rattle.tm_kernel.specs.declared.spec.KernelSpec.{KernelSpec}
+use Rattle.tm_kernel.proofs.Rescheduling.{rescheduling_same_rest, arrival_latches}
+use Rattle.tm_kernel.proofs.Answering.{call_same_rest}
+use Rattle.tm_image.specs.Image.{ImageView, entry_of, text_of}
+use Rattle.tm_system.specs.declared.machine.Told.{Told}
+use Rattle.tm_system.specs.History.{Deed, Arrives, Steps, Answers, Faulted, Whole, Moment, History}
+use Rattle.tm_system.specs.Run.{now, running_at, body_at, arrival, arrives, moment_by, call_moment, left_by, next_moment, turned}
+use Rattle.tm_system.specs.Marks.{is_start, backs, standing_at}
+use Rattle.tm_system.specs.Controls.{is_switch, switch_at, output_of}
+use Rattle.tm_system.specs.Telling.{cause_of}
+use Rattle.tm_system.specs.Machine.{MachineView, IsAt, IsMachine, task_at, told_of, arrival_told, entry_told, checkpoint_told}
+use Rattle.tm_system.specs.Parts.{IsTaskOrNobody, switched}
+use Rattle.tm_system.proofs.Marking.{went_at, answered_at, steps_apart, answers_apart, faulted_apart, arrives_apart, step_moment, answer_moment}
+use Rattle.tm_system.proofs.Moments.{rested, moved, body_put, switched-at}
+
+-- a task runs, one of the image's
+pub record Runs (image : ImageView) (h : History) (old : MachineView) (r : ℕ) : Type 0 where
+  pub at : IsAt image old h
+  pub runs : old.kernel.running ≡ r
+  pub there : r < length image.loads
+
+-- what the machine has running, the run has running
+pub runs_of : (image : ImageView) (h : History) (old : MachineView) (r : ℕ) → IsAt image old h → IsMachine old →
+    IsRunning old.kernel r → Runs image h old r
+runs_of image h old r at sound running = record {
+  at = at;
+  runs = running.runs;
+  there = omega (arith, running.there, sound.kernel.states, sound.tasks, at.tasks);
+}
+
+-- the running task is nobody, or one of the machine's
+pub runner_within : (machine : MachineView) → IsMachine machine → IsTaskOrNobody (length machine.tasks) machine.kernel.running
+runner_within machine sound = elim sound.kernel.running [
+  | inl e ↦ inl e
+  | inr e ↦ inr (omega (arith, slice_get_within machine.kernel.states machine.kernel.running _ e, sound.kernel.states, sound.tasks))
+]
+
+-- who runs by the machine runs by the run
+pub runs_at : (image : ImageView) (h : History) (old : MachineView) (r : ℕ) → Runs image h old r → running_at image h ≡ r
+runs_at image h old r runs = sym (ap (λ (k : KernelState). k.running) runs.at.kernel) ∙ runs.runs
+
+-- the running task, as the machine has it
+pub runner_is : (image : ImageView) (h : History) (old : MachineView) (r : ℕ) (before : TaskView) → Runs image h old r →
+    slice_get old.tasks r ≡ Some before → before ≡ task_at image h r
+runner_is image h old r before runs there = same_Some _ _ (sym there ∙ runs.at.each r runs.there)
+
+-- while a task runs, a turn is its next moment
+pub turned_runs : (image : ImageView) (h : History) (r : ℕ) → running_at image h ≡ r → r ≢ nobody →
+    turned image h ≡ next_moment image h ∷ h
+turned_runs image h r ran somebody = rw (ne_eqb (running_at image h) nobody (λ e. somebody (sym ran ∙ e))) refl
+
+-- the next moment, by what the instruction does
+pub next_is : (image : ImageView) (h : History) (r : ℕ) (e : Exec) → running_at image h ≡ r →
+    exec (text_of image r) (body_at image h r) ≡ e →
+    next_moment image h ≡ moment_by (entry_of image r) (now image h) r (body_at image h r) e
+next_is image h r e ran did =
+    let P : ℕ → Type 0 = λ (q : ℕ).
+    moment_by (entry_of image q) (now image h) q (body_at image h q) (exec (text_of image q) (body_at image h q))
+    ≡ moment_by (entry_of image r) (now image h) r (body_at image h r) e in
+    subst P (sym ran) (ap (λ (x : Exec). moment_by (entry_of image r) (now image h) r (body_at image h r) x) did)
+
+-- two tasks of equal parts
+same_parts : (e e' : ℕ) (s s' : Standing) → e ≡ e' → s ≡ s' →
+    (let t : TaskView = record { entry = e; standing = s } in t) ≡ record { entry = e'; standing = s' }
+same_parts e e' s s' p q = cc
+
+-- what is told of a moment, by its parts
+pub told_is : (image : ImageView) (m : Moment) (h : History)
+    (entry : Option DataEntry) (output : Option OutputEntry) (checkpoint : Option ℕ) (switch : Option Switch) (fault : ℕ) (idle : Bool) →
+    entry ≡ entry_told m.deed → output ≡ output_of m.deed → checkpoint ≡ checkpoint_told m.deed h →
+    switch ≡ (if is_switch image m h then Some (switch_at image m h) else None) → fault ≡ cause_of m.deed →
+    idle ≡ (m.after.kernel.running == nobody) →
+    (let t : Told = record { entry = entry; output = output; checkpoint = checkpoint; switch = switch; fault = fault; idle = idle } in t)
+    ≡ told_of image m h
+told_is image m h entry output checkpoint switch fault idle a b c d e f = cc
+
+-- an instruction that went on: its moment, and the machine after it
+goes_moment : (image : ImageView) (h : History) (old : MachineView) (r : ℕ) (before after : TaskView) (runs : Runs image h old r) →
+    slice_get old.tasks r ≡ Some before → (w : Went (text_of image r) before after) →
+    next_moment image h ≡ moment_by (entry_of image r) (now image h) r (body_at image h r) (Goes after.standing.body w.back)
+goes_moment image h old r before after runs there w =
+    let body : before.standing.body ≡ body_at image h r =
+    ap (λ (t : TaskView). t.standing.body) (runner_is image h old r before runs there) in
+    next_is image h r _ (runs_at image h old r runs)
+    (ap (λ (b : Body). exec (text_of image r) b) (sym body) ∙ w.executed)
+
+pub goes_at : (image : ImageView) (h : History) (old new : MachineView) (r : ℕ) (before after : TaskView) → Runs image h old r →
+    slice_get old.tasks r ≡ Some before → Went (text_of image r) before after →
+    new ≡ record old { tasks = slice_set old.tasks r after } → IsAt image new (next_moment image h ∷ h)
+goes_at image h old new r before after runs there w rest =
+    let m : Moment = moment_by (entry_of image r) (now image h) r (body_at image h r) (Goes after.standing.body w.back) in
+    let is : before ≡ task_at image h r = runner_is image h old r before runs there in
+    let within : r < length (now image h).bodies = omega (arith, runs.there, runs.at.bodies) in
+    let standing : after.standing ≡ standing_at image (m ∷ h) r =
+    w.standing ∙ ap (λ (t : TaskView). went t.standing after.standing.body w.back) is ∙
+    sym (went_at image h r after.standing.body m.after w.back (body_put (now image h).bodies r after.standing.body within)) in
+    let here : after ≡ task_at image (m ∷ h) r =
+    same_parts after.entry (entry_of image r) after.standing _ (w.entry ∙ ap (λ (t : TaskView). t.entry) is) standing in
+    let P : Moment → Type 0 = λ (x : Moment). IsAt image new (x ∷ h) in
+    subst P (sym (goes_moment image h old r before after runs there w))
+    (moved image h old new m r after.standing.body after runs.at runs.there
+    (ap (λ (x : MachineView). x.kernel) rest ∙ runs.at.kernel)
+    (ap (λ (x : MachineView). x.kernel.spec) rest)
+    (λ t other. steps_apart t r w.back other) refl
+    (ap (λ (x : MachineView). x.tasks) rest) here)
+
+-- whether an instruction that went on starts an epoch shows in the epoch
+went_stays : (s : Standing) (next : Body) (back : Bool) → (went s next back).epoch ≡ s.epoch → (back && is_full s) ≡ false
+went_stays s next false e = refl
+went_stays s next true e = elim (cases_Bool (is_full s)) [
+  | inl full ↦
+      let up : (if is_full s then s.epoch + 1 else s.epoch) ≡ s.epoch + 1 = rw full refl in
+      let here : (went s next true).epoch ≡ s.epoch + 1 = rw full refl in
+      absurd (omega arith)
+  | inr more ↦ more
+]
+
+went_starts : (s : Standing) (next : Body) (back : Bool) → (went s next back).epoch ≡ s.epoch + 1 → (back && is_full s) ≡ true
+went_starts s next false e = absurd (omega arith)
+went_starts s next true e = elim (cases_Bool (is_full s)) [
+  | inl full ↦ full
+  | inr more ↦
+      let here : (went s next true).epoch ≡ s.epoch = rw more refl in
+      absurd (omega arith)
+]
+
+-- what is told of an instruction that went on
+goes_told : (image : ImageView) (h : History) (old : MachineView) (r : ℕ) (before after : TaskView) (runs : Runs image h old r)
+    (checkpoint : Option ℕ) → r ≢ nobody → slice_get old.tasks r ≡ Some before → (w : Went (text_of image r) before after) →
+    checkpoint ≡ (if w.back && (backs r h + 1 == EPOCH_LENGTH) then Some r else None) →
+    (let t : Told = record { entry = None; output = None; checkpoint = checkpoint; switch = None; fault = 0; idle = false } in t)
+    ≡ told_of image (next_moment image h) h
+goes_told image h old r before after runs checkpoint somebody there w checked =
+    let m : Moment = moment_by (entry_of image r) (now image h) r (body_at image h r) (Goes after.standing.body w.back) in
+    let ran : running_at image h ≡ r = runs_at image h old r runs in
+    let start : (if is_start r (Steps r w.back) (backs r h) then Some r else None)
+    ≡ (if w.back && (backs r h + 1 == EPOCH_LENGTH) then Some r else None) = rw (eq-eqb r r refl) refl in
+    let quiet : (if is_switch image m h then Some (switch_at image m h) else None) ≡ None =
+    rw (eq-eqb (running_at image h) (running_at image h) refl) refl in
+    let busy : (m.after.kernel.running == nobody) ≡ false =
+    ne_eqb (running_at image h) nobody (λ e. somebody (sym ran ∙ e)) in
+    let P : Moment → Type 0 = λ (x : Moment).
+    (let t : Told = record { entry = None; output = None; checkpoint = checkpoint; switch = None; fault = 0; idle = false } in t)
+    ≡ told_of image x h in
+    subst P (sym (goes_moment image h old r before after runs there w))
+    (told_is image m h None None checkpoint None 0 false refl refl (checked ∙ sym start) (sym quiet) refl (sym busy))
+
+pub ran_told : (image : ImageView) (h : History) (old : MachineView) (r : ℕ) (before after : TaskView) → Runs image h old r →
+    r ≢ nobody → slice_get old.tasks r ≡ Some before → DidRun (text_of image r) before after →
+    (let t : Told = record { entry = None; output = None; checkpoint = None; switch = None; fault = 0; idle = false } in t)
+    ≡ told_of image (next_moment image h) h
+ran_told image h old r before after runs somebody there did =
+    let is : before ≡ task_at image h r = runner_is image h old r before runs there in
+    let w = did.goes in
+    let stays : (w.back && is_full before.standing) ≡ false =
+    went_stays before.standing after.standing.body w.back
+    (sym (ap (λ (s : Standing). s.epoch) w.standing) ∙ did.epoch) in
+    let here : (w.back && (backs r h + 1 == EPOCH_LENGTH)) ≡ false =
+    sym (ap (λ (t : TaskView). w.back && is_full t.standing) is) ∙ stays in
+    goes_told image h old r before after runs None somebody there w (rw here refl)
+
+pub forced_told : (image : ImageView) (h : History) (old : MachineView) (r : ℕ) (before after : TaskView) → Runs image h old r →
+    r ≢ nobody → slice_get old.tasks r ≡ Some before → DidForce (text_of image r) before after →
+    (let t : Told = record { entry = None; output = None; checkpoint = Some r; switch = None; fault = 0; idle = false } in t)
+    ≡ told_of image (next_moment image h) h
+forced_told image h old r before after runs somebody there did =
+    let is : before ≡ task_at image h r = runner_is image h old r before runs there in
+    let w = did.goes in
+    let starts : (w.back && is_full before.standing) ≡ true =
+    went_starts before.standing after.standing.body w.back
+    (sym (ap (λ (s : Standing). s.epoch) w.standing) ∙ did.epoch) in
+    let here : (w.back && (backs r h + 1 == EPOCH_LENGTH)) ≡ true =
+    sym (ap (λ (t : TaskView). w.back && is_full t.standing) is) ∙ starts in
+    goes_told image h old r before after runs (Some r) somebody there w (rw here refl)
+
+-- an answered call: its moment, the machine after it, and what is told
+call_is : (image : ImageView) (h : History) (old : MachineView) (r service : ℕ) (before : TaskView) (a : Answered) → Runs image h old r →
+    exec (text_of image r) (body_at image h r) ≡ Calls service → slice_get old.tasks r ≡ Some before →
+    a ≡ answer old.kernel r service (args_of before.standing.body) →
+    next_moment image h ≡ call_moment (entry_of image r) (now image h) r (body_at image h r) a
+call_is image h old r service before a runs did there is_a =
+    let is : before ≡ task_at image h r = runner_is image h old r before runs there in
+    let same : a ≡ answer (now image h).kernel r service (args_of (body_at image h r)) =
+    is_a ∙ ap (λ (k : KernelState). answer k r service (args_of before.standing.body)) runs.at.kernel ∙
+    ap (λ (t : TaskView). answer (now image h).kernel r service (args_of t.standing.body)) is in
+    next_is image h r (Calls service) (runs_at image h old r runs) did ∙
+    ap (λ (x : Answered). call_moment (entry_of image r) (now image h) r (body_at image h r) x) (sym same)
+
+pub call_at : (image : ImageView) (h : History) (old new : MachineView) (r service : ℕ) (before : TaskView) (a : Answered) → Runs image h old r →
+    exec (text_of image r) (body_at image h r) ≡ Calls service → slice_get old.tasks r ≡ Some before →
+    a ≡ answer old.kernel r service (args_of before.standing.body) →
+    new.kernel ≡ rescheduled a.kernel → new.kernel.spec ≡ old.kernel.spec →
+    new.tasks ≡ slice_set old.tasks r (record before { standing = answered before.entry before.standing a.entry }) →
+    IsAt image new (next_moment image h ∷ h)
+call_at image h old new r service before a runs did there is_a kernel spec tasks =
+    let m : Moment = call_moment (entry_of image r) (now image h) r (body_at image h r) a in
+    let is : before ≡ task_at image h r = runner_is image h old r before runs there in
+    let within : r < length (now image h).bodies = omega (arith, runs.there, runs.at.bodies) in
+    let next : Body = reply (entry_of image r) (body_at image h r) a.entry in
+    let standing : answered before.entry before.standing a.entry ≡ standing_at image (m ∷ h) r =
+    ap (λ (t : TaskView). answered t.entry t.standing a.entry) is ∙
+    sym (answered_at image h r a.entry a.output (left_by a.need) m.after (body_put (now image h).bodies r next within)) in
+    let here : (record before { standing = answered before.entry before.standing a.entry }) ≡ task_at image (m ∷ h) r =
+    same_parts before.entry (entry_of image r) _ _ (ap (λ (t : TaskView). t.entry) is) standing in
+    let P : Moment → Type 0 = λ (x : Moment). IsAt image new (x ∷ h) in
+    subst P (sym (call_is image h old r service before a runs did there is_a))
+    (moved image h old new m r next _ runs.at runs.there kernel spec
+    (λ t other. answers_apart t r a.entry a.output other) refl tasks here)
+
+pub call_told : (image : ImageView) (h : History) (old : MachineView) (r service : ℕ) (before : TaskView) (a : Answered) → Runs image h old r →
+    exec (text_of image r) (body_at image h r) ≡ Calls service → slice_get old.tasks r ≡ Some before →
+    a ≡ answer old.kernel r service (args_of before.standing.body) →
+    (entry : Option DataEntry) (output : Option OutputEntry) (checkpoint : Option ℕ) (switch : Option Switch) (fault : ℕ) (idle : Bool) →
+    entry ≡ Some a.entry → output ≡ a.output → checkpoint ≡ (if begins_epoch a.entry then Some r else None) →
+    switch ≡ (if is_switch image (next_moment image h) h then Some (switch_at image (next_moment image h) h) else None) →
+    fault ≡ 0 → idle ≡ ((rescheduled a.kernel).running == nobody) →
+    (let t : Told = record { entry = entry; output = output; checkpoint = checkpoint; switch = switch; fault = fault; idle = idle } in t)
+    ≡ told_of image (next_moment image h) h
+call_told image h old r service before a runs did there is_a entry output checkpoint switch fault idle e o c s f i =
+    let m : Moment = call_moment (entry_of image r) (now image h) r (body_at image h r) a in
+    let is : next_moment image h ≡ m = call_is image h old r service before a runs did there is_a in
+    let start : (if is_start r (Answers r a.entry a.output) (backs r h) then Some r else None)
+    ≡ (if begins_epoch a.entry then Some r else None) =
+    elim (cases_Bool (begins_epoch a.entry)) [
+      | inl starts ↦ rw (eq-eqb r r refl) (rw starts refl)
+      | inr stays ↦ rw (eq-eqb r r refl) (rw stays refl)
+    ] in
+    let P : Moment → Type 0 = λ (x : Moment).
+    (let t : Told = record { entry = entry; output = output; checkpoint = checkpoint; switch = switch; fault = fault; idle = idle } in t)
+    ≡ told_of image x h in
+    let Q : Moment → Type 0 = λ (x : Moment). switch ≡ (if is_switch image x h then Some (switch_at image x h) else None) in
+    subst P (sym is)
+    (told_is image m h entry output checkpoint switch fault idle e o (c ∙ sym start) (subst Q is s) f i)
+
+-- a fault: its moment, the machine after it, and what is told
+pub fault_at : (image : ImageView) (h : History) (old new : MachineView) (r : ℕ) (cause : Cause) → Runs image h old r →
+    exec (text_of image r) (body_at image h r) ≡ Faults cause →
+    new.kernel ≡ stopped old.kernel true → new.tasks ≡ old.tasks → IsAt image new (next_moment image h ∷ h)
+fault_at image h old new r cause runs did kernel tasks =
+    let m : Moment = moment_by (entry_of image r) (now image h) r (body_at image h r) (Faults cause) in
+    let P : Moment → Type 0 = λ (x : Moment). IsAt image new (x ∷ h) in
+    subst P (sym (next_is image h r (Faults cause) (runs_at image h old r runs) did))
+    (rested image h old new m runs.at
+    (kernel ∙ ap (λ (k : KernelState). stopped k true) runs.at.kernel)
+    (ap (λ (k : KernelState). k.spec) kernel)
+    (λ t. faulted_apart t r cause) refl tasks)
+
+pub fault_told : (image : ImageView) (h : History) (old : MachineView) (r : ℕ) (cause : Cause) → Runs image h old r →
+    exec (text_of image r) (body_at image h r) ≡ Faults cause →
+    (entry : Option DataEntry) (output : Option OutputEntry) (checkpoint : Option ℕ) (switch : Option Switch) (fault : ℕ) (idle : Bool) →
+    entry ≡ None → output ≡ None → checkpoint ≡ None →
+    switch ≡ (if is_switch image (next_moment image h) h then Some (switch_at image (next_moment image h) h) else None) →
+    fault ≡ cause_of (Faulted r cause) → idle ≡ true →
+    (let t : Told = record { entry = entry; output = output; checkpoint = checkpoint; switch = switch; fault = fault; idle = idle } in t)
+    ≡ told_of image (next_moment image h) h
+fault_told image h old r cause runs did entry output checkpoint switch fault idle e o c s f i =
+    let m : Moment = moment_by (entry_of image r) (now image h) r (body_at image h r) (Faults cause) in
+    let is : next_moment image h ≡ m = next_is image h r (Faults cause) (runs_at image h old r runs) did in
+    let P : Moment → Type 0 = λ (x : Moment).
+    (let t : Told = record { entry = entry; output = output; checkpoint = checkpoint; switch = switch; fault = fault; idle = idle } in t)
+    ≡ told_of image x h in
+    let Q : Moment → Type 0 = λ (x : Moment). switch ≡ (if is_switch image x h then Some (switch_at image x h) else None) in
+    subst P (sym is) (told_is image m h entry output checkpoint switch fault idle e o c (subst Q is s) f i)
+
+-- the reason why the task of a call or a fault leaves, as the moment has it
+pub call_leaves : (image : ImageView) (h : History) (old : MachineView) (r service : ℕ) (before : TaskView) (a : Answered) → Runs image h old r →
+    exec (text_of image r) (body_at image h r) ≡ Calls service → slice_get old.tasks r ≡ Some before →
+    a ≡ answer old.kernel r service (args_of before.standing.body) →
+    (next_moment image h).leaves ≡ left_by a.need
+call_leaves image h old r service before a runs did there is_a =
+    ap (λ (m : Moment). m.leaves) (call_is image h old r service before a runs did there is_a)
+
+pub fault_leaves : (image : ImageView) (h : History) (old : MachineView) (r : ℕ) (cause : Cause) → Runs image h old r →
+    exec (text_of image r) (body_at image h r) ≡ Faults cause → (next_moment image h).leaves ≡ Some Fault
+fault_leaves image h old r cause runs did =
+    ap (λ (m : Moment). m.leaves) (next_is image h r (Faults cause) (runs_at image h old r runs) did)
+
+-- the control entries that the machine tells of a call and of a fault
+pub call_switch : (image : ImageView) (h : History) (old new : MachineView) (r service : ℕ) (before : TaskView) (a : Answered) → Runs image h old r →
+    exec (text_of image r) (body_at image h r) ≡ Calls service → slice_get old.tasks r ≡ Some before →
+    a ≡ answer old.kernel r service (args_of before.standing.body) →
+    IsMachine new → IsAt image new (next_moment image h ∷ h) → (leaves : Option Kind) → leaves ≡ left_by a.need →
+    switched new r leaves
+    ≡ (if is_switch image (next_moment image h) h then Some (switch_at image (next_moment image h) h) else None)
+call_switch image h old new r service before a runs did there is_a sound at leaves left =
+    switched-at image new (next_moment image h) h r leaves at (sym (runs_at image h old r runs))
+    (left ∙ sym (call_leaves image h old r service before a runs did there is_a)) (inr runs.there)
+    (subst (λ (n : ℕ). IsTaskOrNobody n new.kernel.running) at.tasks (runner_within new sound))
+
+pub fault_switch : (image : ImageView) (h : History) (old new : MachineView) (r : ℕ) (cause : Cause) → Runs image h old r →
+    exec (text_of image r) (body_at image h r) ≡ Faults cause →
+    IsMachine new → IsAt image new (next_moment image h ∷ h) →
+    switched new r (Some Fault)
+    ≡ (if is_switch image (next_moment image h) h then Some (switch_at image (next_moment image h) h) else None)
+fault_switch image h old new r cause runs did sound at =
+    switched-at image new (next_moment image h) h r (Some Fault) at (sym (runs_at image h old r runs))
+    (sym (fault_leaves image h old r cause runs did)) (inr runs.there)
+    (subst (λ (n : ℕ). IsTaskOrNobody n new.kernel.running) at.tasks (runner_within new sound))
+
+-- an arrival and a call leave the kernel's specification
+pub arrival_spec : (k : KernelState) (mask : ℕ) (ports : List ℕ) → (rescheduled (arrived k mask ports)).spec ≡ k.spec
+arrival_spec k mask ports = (rescheduling_same_rest (arrived k mask ports)).spec ∙ (arrival_latches k mask ports).0.spec
+
+pub call_spec : (k : KernelState) (task service : ℕ) (args : List ℕ) → (rescheduled (answer k task service args).kernel).spec ≡ k.spec
+call_spec k task service args =
+    (rescheduling_same_rest (answer k task service args).kernel).spec ∙ (call_same_rest k task service args).spec
+
+-- a machine of the same tasks, whose kernel has the same specification
+pub sound_after : (old new : MachineView) → IsMachine old → length new.tasks ≡ length old.tasks →
+    new.kernel.spec ≡ old.kernel.spec → IsKernel new.kernel → IsMachine new
+sound_after old new sound tasks spec kernel = record {
+  tasks = tasks ∙ sound.tasks ∙ sym (ap (λ (s : KernelSpec). length s.tasks) spec);
+  kernel = kernel;
+}
+
+-- an arrival: the machine after it, and what is told
+pub arrival_at : (image : ImageView) (h : History) (old new : MachineView) (mask : ℕ) (ports : List ℕ) → IsAt image old h →
+    new.kernel ≡ rescheduled (arrived old.kernel mask ports) → new.kernel.spec ≡ old.kernel.spec → new.tasks ≡ old.tasks →
+    IsAt image new (arrival (now image h) mask ports ∷ h)
+arrival_at image h old new mask ports at kernel spec tasks =
+    rested image h old new (arrival (now image h) mask ports) at
+    (kernel ∙ ap (λ (k : KernelState). rescheduled (arrived k mask ports)) at.kernel)
+    spec (λ t. arrives_apart t mask ports) refl tasks
+
+pub arrival_told_is : (image : ImageView) (h : History) (mask : ℕ) (ports : List ℕ)
+    (entry : Option DataEntry) (output : Option OutputEntry) (checkpoint : Option ℕ) (switch : Option Switch) (fault : ℕ) (idle : Bool) →
+    entry ≡ None → output ≡ None → checkpoint ≡ None →
+    switch ≡ (if is_switch image (arrival (now image h) mask ports) h then Some (switch_at image (arrival (now image h) mask ports) h) else None) →
+    fault ≡ 0 → idle ≡ ((rescheduled (arrived (now image h).kernel mask ports)).running == nobody) →
+    (let t : Told = record { entry = entry; output = output; checkpoint = checkpoint; switch = switch; fault = fault; idle = idle } in t)
+    ≡ told_of image (arrival (now image h) mask ports) h
+arrival_told_is image h mask ports entry output checkpoint switch fault idle e o c s f i =
+    told_is image (arrival (now image h) mask ports) h entry output checkpoint switch fault idle e o c s f i
+
+pub arrival_switch : (image : ImageView) (h : History) (old new : MachineView) (mask : ℕ) (ports : List ℕ) →
+    IsAt image old h → IsMachine old → IsMachine new → IsAt image new (arrival (now image h) mask ports ∷ h) →
+    switched new old.kernel.running None
+    ≡ (if is_switch image (arrival (now image h) mask ports) h then Some (switch_at image (arrival (now image h) mask ports) h) else None)
+arrival_switch image h old new mask ports before old_sound new_sound at =
+    switched-at image new (arrival (now image h) mask ports) h old.kernel.running None at
+    (ap (λ (k : KernelState). k.running) before.kernel) refl
+    (subst (λ (n : ℕ). IsTaskOrNobody n old.kernel.running) before.tasks (runner_within old old_sound))
+    (subst (λ (n : ℕ). IsTaskOrNobody n new.kernel.running) at.tasks (runner_within new new_sound))
+
+-- while the run goes on, an arrival is a moment
+pub arrives_goes : (image : ImageView) (h : History) (mask : ℕ) (ports : List ℕ) → (now image h).kernel.ended ≡ 0 →
+    arrives image mask ports h ≡ arrival (now image h) mask ports ∷ h
+arrives_goes image h mask ports goes = rw (eq-eqb (now image h).kernel.ended 0 goes) refl
+
+pub arrival_told_goes : (image : ImageView) (h : History) (mask : ℕ) (ports : List ℕ) → (now image h).kernel.ended ≡ 0 →
+    arrival_told image mask ports h ≡ told_of image (arrival (now image h) mask ports) h
+arrival_told_goes image h mask ports goes = rw (eq-eqb (now image h).kernel.ended 0 goes) refl

@@ -1,0 +1,83 @@
+use Rattle.std.proofs.Common.{◌≡◌, ℕ, ◌<◌, Bool, true, false, refl, ap, sym, ◌∙◌, subst, arith, ◌∷◌, length, get_or, Some, slice_get, if◌then◌else◌, None, Option}
+use Rattle.std.proofs.lemmas.Option.{slice_get_read}
+use Rattle.std.specs.Bool.{then_some}
+use Rattle.tm_task.specs.Exec.{exec, Calls}
+use Rattle.tm_task.specs.Standing.{begins_epoch}
+use Rattle.tm_kernel.specs.declared.kernel.Need.{Need}
+use Rattle.tm_kernel.specs.State.{KernelState, IsRunning}
+use Rattle.tm_kernel.specs.Service.{answer}
+use Rattle.tm_kernel.specs.Schedule.{rescheduled}
+use Rattle.tm_image.specs.Image.{ImageView, text_of}
+use Rattle.tm_system.specs.declared.machine.Told.{Told}
+use Rattle.tm_system.specs.History.{History}
+use Rattle.tm_system.specs.Run.{body_at, next_moment, left_by}
+use Rattle.tm_system.specs.Machine.{MachineView, IsAt, IsMachine}
+use Rattle.tm_system.proofs.Turning.{Runs, runs_of}
+use Rattle.tm_system.proofs.Calling.{IsCalled, called_at, called_told, called_spec}
+use Rattle.tm_system.proofs.machine.Machine.answer.Goals as goal
+use Rattle.tm_system.proofs.machine.Machine.answer.Goals.{After-nothing}
+
+then_some_is : (b : Bool) (x : ℕ) → then_some b x ≡ (if b then Some x else None)
+then_some_is true x = refl
+then_some_is false x = refl
+
+-- the machine before, and after
+abbrev old : After-nothing → MachineView
+old c = record { tasks = c.self.inside.tasks.items; kernel = c.self.inside.kernel }
+
+abbrev new : After-nothing → MachineView
+new c = record { tasks = c.self-2.inside.tasks.items; kernel = c.reschedule.new.self }
+
+running : (c : After-nothing) → IsRunning c.self.inside.kernel c.args.task
+running c = subst (λ (m : MachineView). IsRunning m.kernel c.args.task) (sym c.self.view_is) c.requires.runs
+
+within : (c : After-nothing) → c.args.task < length c.self.inside.tasks.items
+within c =
+    let there = (running c).there in
+    let states = c.self.invariant.kernel.states in
+    let tasks = c.self.invariant.tasks in
+    omega (arith, there, states, tasks)
+
+there : (c : After-nothing) → slice_get c.self.inside.tasks.items c.args.task ≡ Some c.index.result.now
+there c = slice_get_read c.self.inside.tasks.items (length c.self.inside.tasks.items) c.args.task c.index.result.now refl (within c)
+    (subst (λ (i : ℕ). c.index.result.now ≡ get_or c.self.inside.tasks.items i c.index.result.now) c.from.ensures c.index.ensures)
+
+called : (c : After-nothing) → IsCalled (old c) c.reply-begins.new.self (new c) c.args.task c.args.service c.index.result.now
+    c.args-args.result c.call-answer.new.self c.call-answer.result.entry
+called c = record {
+  there = there c;
+  args_is = c.args-args.ensures;
+  kernel_is = c.call-answer.ensures.kernel;
+  entry_is = c.call-answer.ensures.entry;
+  replied = c.reply-begins.ensures.replied;
+  rescheduled_is = c.reschedule.ensures.rescheduled ∙ ap (λ (m : MachineView). rescheduled m.kernel) c.self-2.view_is;
+  tasks_is = ap (λ (m : MachineView). m.tasks) c.self-2.view_is;
+}
+
+runs : (c : After-nothing) (image : ImageView) (h : History) → IsAt image c.args.self.now h → Runs image h (old c) c.args.task
+runs c image h at = runs_of image h (old c) c.args.task (subst (λ (m : MachineView). IsAt image m h) (sym c.self.view_is) at)
+    c.self.invariant (running c)
+
+pub returns-clause-at : goal.returns-clause-at
+returns-clause-at c = λ image h at did.
+    called_at image h (old c) c.reply-begins.new.self (new c) c.args.task c.args.service c.index.result.now
+    c.args-args.result c.call-answer.new.self c.call-answer.result.entry (runs c image h at) (called c) did
+
+pub returns-clause-told : goal.returns-clause-told
+returns-clause-told c = λ image h at did.
+    called_told image h (old c) c.reply-begins.new.self (new c) c.args.task c.args.service c.index.result.now
+    c.args-args.result c.call-answer.new.self c.call-answer.result.entry (runs c image h at)
+    c.self.invariant c.reschedule.ensures.sound (called c) did
+    c.call-answer.result.output c.then_some.result c.left_by.result c.switch.result c.nothing.result.fault c.nothing.result.idle
+    c.call-answer.ensures.output
+    (c.then_some.ensures ∙ ap (λ (b : Bool). then_some b c.args.task) c.reply-begins.ensures.begins ∙ then_some_is (begins_epoch c.call-answer.result.entry) c.args.task)
+    (c.left_by.ensures ∙ ap (λ (n : Need). left_by n) c.call-answer.ensures.need)
+    c.switch.ensures
+    (ap (λ (t : Told). t.fault) c.nothing.ensures)
+    (ap (λ (t : Told). t.idle) c.nothing.ensures)
+
+pub returns-clause-spec : goal.returns-clause-spec
+returns-clause-spec c =
+    called_spec (old c) c.reply-begins.new.self (new c) c.args.task c.args.service c.index.result.now
+    c.args-args.result c.call-answer.new.self c.call-answer.result.entry (called c) ∙
+    ap (λ (m : MachineView). m.kernel.spec) c.self.view_is

@@ -1,0 +1,12 @@
+//! The whole machine: every task of an image and the kernel, and what a run of it is.
+//!
+//! [`Machine`] is the state of a run at a moment. [`Machine::boot`] makes it of an image;
+//! [`Machine::arrive`] does the arrival of a slice, and [`Machine::turn`] one instruction of the
+//! running task. Each tells by [`Told`] what its moment adds to the lists that the run leaves.
+#![tactic(auto)]
+
+mod laws;
+mod machine;
+
+pub use laws::examples;
+pub use machine::{Machine, Told};
