@@ -4,3 +4,6 @@ pub mod Turning
 pub mod Calling
 pub mod Stepping
 pub mod Booting
+pub mod Following
+pub mod Lengths
+pub mod Texts

@@ -7,3 +7,4 @@ pub mod Follows
 pub mod Machine
 pub mod Parts
 pub mod Examples
+pub mod Laws

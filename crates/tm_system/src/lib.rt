@@ -7,6 +7,8 @@
 
 mod laws;
 mod machine;
+mod runs;
 
 pub use laws::examples;
 pub use machine::{Machine, Told};
+pub use runs::scripts_are_runs;
