@@ -108,6 +108,7 @@ with_task image t = record {
   loads = image.loads ++ record { entry = t.entry; text = []; words = replicate t.words 0 } ∷ [];
 }
 
+-- the image with the task of a line `task`, where that line may come
 abbrev pub new_task : ImageView → TaskLine → Option ImageView
 new_task image t = then_some (is_task t && takes_task image t) (with_task image t)
 
@@ -117,11 +118,13 @@ text_on None words = None
 text_on (Some load) words =
     then_some (not (has_text load) && nat_le (length words) 16384) (record load { text = words })
 
+-- the loads, where the task that the line names takes its text
 abbrev pub with_text : List Load → TextLine → Option (List Load)
 with_text loads t = do
   load ← text_on (slice_get loads t.number) t.words
   Some (slice_set loads t.number load)
 
+-- the image with the text of a line `text`, where that line may come
 abbrev pub new_text : ImageView → TextLine → Option ImageView
 new_text image t = do
   loads ← with_text image.loads t
@@ -140,6 +143,7 @@ with_line image l = record image {
   spec = record image.spec { lines = slice_set image.spec.lines l.number (Activate l.task) };
 }
 
+-- the image with the action of a line `line`, where that line may come
 abbrev pub new_line : ImageView → ActionLine → Option ImageView
 new_line image l = then_some (takes_line image l) (with_line image l)
 

@@ -74,7 +74,16 @@ impl Image {
     }
 }
 
-/// Reads an image of the small form.
+/// Reads an image of the small form: the line `tmi 1`; for each task from number 0 on a line
+/// `task N basic PRIO START ENTRY WORDS`, with START `auto` or `off`, and a line `text N W ..` of
+/// words of eight lower-case hexadecimal digits; then lines `line L activate T` of rising L below 16.
+/// Each PRIO is another one from 1 to 255, ENTRY is the address of a word of the text, and there are
+/// 1 to 16 tasks with 1 to 16,384 words of text and of data each. Data words are 0.
+///
+/// # Errors
+///
+/// `NotSmall` only for other texts; `Memory` where there is too little memory for the image or for
+/// the tokens of a line.
 #[tactic(auto, unfolding(crate::specs::Image::image_of))]
 pub fn read_image(alloc: Global, bytes: &[u8]) -> Result<Image, Unread>
     ensures read { IfOk result (λ image. image_of bytes.now ≡ Some image) }

@@ -82,7 +82,14 @@ fn slice_said(words: &[&[u8]]) -> Result<Slice, Unread>
     }
 }
 
-/// Reads a plan of the small form.
+/// Reads a plan of the small form: the line `tmplan 1`, then lines `slice LENGTH MASK`. LENGTH is a
+/// decimal number of at most 1,048,576, and MASK is `0`, or `0x` and one to four lower-case
+/// hexadecimal digits. The port words are 0.
+///
+/// # Errors
+///
+/// `NotSmall` only for other texts; `Memory` where there is too little memory for the plan or for the
+/// tokens of a line.
 #[tactic(auto, unfolding(crate::specs::Plan::plan_of))]
 pub fn read_plan(alloc: Global, bytes: &[u8]) -> Result<Plan, Unread>
     ensures read { IfOk result (λ plan. plan_of bytes.now ≡ Some plan) }

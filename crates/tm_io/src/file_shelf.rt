@@ -100,3 +100,29 @@ impl<R: Files> Shelf for FileShelf<R> {
         Ok(())
     }
 }
+
+#[cfg(test)]
+mod tests {
+    use super::*;
+    use std::{env, io, process};
+
+    #[test]
+    fn puts_and_gets_a_file(rt: HostRuntime) -> io::Result<()> {
+        let folder = env::temp_dir(&rt)?;
+        let folder = folder.as_str();
+        let id = process::id(rt.process());
+        let name = format!(in rt.alloc(); "{folder}/tm_io_{id}")?;
+        let mut shelf = FileShelf::new(&rt);
+        let mut into = Vec::from_slice(rt.alloc(), b"before")?;
+        assert_eq!(rt; shelf.get(&name, 9, &mut into), Err(GetFault::Failed));
+        assert_eq!(rt; shelf.put(&name, b"a longer text"), Ok(()));
+        assert_eq!(rt; shelf.put(&name, b"xyz"), Ok(()));
+        assert_eq!(rt; shelf.get(&name, 2, &mut into), Err(GetFault::TooLong));
+        assert_eq!(rt; shelf.get(folder, 9, &mut into), Err(GetFault::Failed));
+        assert_eq!(rt; shelf.put(folder, b"xyz"), Err(PutFault::Failed));
+        assert_eq!(rt; into.as_slice(), b"before".as_slice());
+        assert_eq!(rt; shelf.get(&name, 3, &mut into), Ok(()));
+        assert_eq!(rt; into.as_slice(), b"xyz".as_slice());
+        fs::remove_file(&rt, &name)
+    }
+}

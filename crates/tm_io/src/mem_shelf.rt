@@ -164,3 +164,90 @@ impl Shelf for MemShelf {
         Ok(())
     }
 }
+
+#[cfg(test)]
+mod tests {
+    use super::*;
+
+    fn holds(shelf: &MemShelf, name: &str, bytes: &[u8]) -> bool {
+        shelf.content(name) == Some(bytes)
+    }
+
+    #[test]
+    fn gets_within_the_limit(rt: HostRuntime) -> Result<(), Memory> {
+        let mut shelf = MemShelf::new(rt.alloc(), &[])?;
+        shelf.add("a", b"xyz")?;
+        let mut into = Vec::from_slice(rt.alloc(), b"before")?;
+        assert_eq!(rt; shelf.get("a", 2, &mut into), Err(GetFault::TooLong));
+        assert_eq!(rt; shelf.get("b", 9, &mut into), Err(GetFault::Failed));
+        assert_eq!(rt; into.as_slice(), b"before".as_slice());
+        assert_eq!(rt; shelf.get("a", 3, &mut into), Ok(()));
+        assert_eq!(rt; into.as_slice(), b"xyz".as_slice());
+        Ok(())
+    }
+
+    #[test]
+    fn puts_within_the_room(rt: HostRuntime) -> Result<(), Memory> {
+        let mut shelf = MemShelf::new(rt.alloc(), &[])?;
+        assert_eq!(rt; shelf.put("a", b""), Err(PutFault::Failed));
+        shelf.room("a", 2)?;
+        assert_eq!(rt; shelf.put("a", b"123"), Err(PutFault::Failed));
+        assert!(rt; shelf.content("a").is_none());
+        assert_eq!(rt; shelf.put("a", b"12"), Ok(()));
+        assert_eq!(rt; shelf.put("a", b""), Ok(()));
+        assert!(rt; holds(&shelf, "a", b""));
+        Ok(())
+    }
+
+    #[test]
+    fn keeps_the_greater_room(rt: HostRuntime) -> Result<(), Memory> {
+        let mut shelf = MemShelf::new(rt.alloc(), &[])?;
+        shelf.add("a", b"xyz")?;
+        shelf.add("b", b"1")?;
+        shelf.add("a", b"u")?;
+        shelf.room("a", 2)?;
+        assert_eq!(rt; shelf.put("a", b"uvwx"), Err(PutFault::Failed));
+        assert_eq!(rt; shelf.put("a", b"uvw"), Ok(()));
+        assert!(rt; holds(&shelf, "a", b"uvw"));
+        assert!(rt; holds(&shelf, "b", b"1"));
+        Ok(())
+    }
+
+    #[test]
+    fn fails_the_calls_of_the_listed_numbers(rt: HostRuntime) -> Result<(), Memory> {
+        let mut shelf = MemShelf::new(rt.alloc(), &[1, 4])?;
+        shelf.add("a", b"x")?;
+        let mut into = Vec::new(rt.alloc());
+        assert_eq!(rt; shelf.get("a", 9, &mut into), Err(GetFault::Failed));
+        assert_eq!(rt; shelf.get("a", 9, &mut into), Ok(()));
+        assert_eq!(rt; shelf.put("a", b"y"), Ok(()));
+        assert_eq!(rt; shelf.put("a", b"z"), Err(PutFault::Failed));
+        assert_eq!(rt; shelf.put("a", b"z"), Ok(()));
+        assert!(rt; holds(&shelf, "a", b"z"));
+        Ok(())
+    }
+
+    // Run with each allocation failing in turn.
+    #[test]
+    fn want_of_memory_leaves_all(rt: HostRuntime) -> Result<(), Memory> {
+        let mut shelf = MemShelf::new(rt.alloc(), &[])?;
+        shelf.add("a", b"x")?;
+        let mut into = Vec::new(rt.alloc());
+        match shelf.add("a", b"longer") {
+            Ok(()) => assert!(rt; holds(&shelf, "a", b"longer")),
+            Err(_) => assert!(rt; holds(&shelf, "a", b"x")),
+        }
+        match shelf.add("b", b"y") {
+            Ok(()) => assert!(rt; holds(&shelf, "b", b"y")),
+            Err(_) => assert!(rt; shelf.content("b").is_none()),
+        }
+        if shelf.room("c", 5).is_err() {
+            assert_eq!(rt; shelf.put("c", b"z"), Err(PutFault::Failed));
+        }
+        match shelf.get("a", 9, &mut into) {
+            Ok(()) => assert!(rt; holds(&shelf, "a", &into)),
+            Err(fault) => assert_eq!(rt; fault, GetFault::Memory),
+        }
+        Ok(())
+    }
+}

@@ -111,3 +111,39 @@ impl Sink for MemSink {
         Ok(n)
     }
 }
+
+#[cfg(test)]
+mod tests {
+    use super::*;
+
+    #[test]
+    fn takes_the_first_bytes_and_no_more_than_its_room(rt: HostRuntime) -> Result<(), Memory> {
+        let mut sink = MemSink::new(rt.alloc(), 2, &[])?;
+        assert_eq!(rt; sink.write(b"a"), Err(Failed));
+        sink.room(4)?;
+        sink.room(3)?;
+        assert_eq!(rt; sink.write(b"abcd"), Ok(2));
+        assert_eq!(rt; sink.write(b"cde"), Err(Failed));
+        assert_eq!(rt; sink.write(b""), Ok(0));
+        assert_eq!(rt; sink.write(b"cd"), Ok(2));
+        assert_eq!(rt; sink.write(b"e"), Err(Failed));
+        assert_eq!(rt; sink.bytes(), b"abcd".as_slice());
+        sink.room(1)?;
+        assert_eq!(rt; sink.write(b"e"), Ok(1));
+        assert_eq!(rt; sink.bytes(), b"abcde".as_slice());
+        Ok(())
+    }
+
+    #[test]
+    fn fails_the_writes_of_the_listed_numbers(rt: HostRuntime) -> Result<(), Memory> {
+        let mut sink = MemSink::new(rt.alloc(), 9, &[2, 4])?;
+        sink.room(9)?;
+        let mut taken = [false; 5];
+        for take in taken.iter_mut() {
+            *take = sink.write(b"x").is_ok();
+        }
+        assert_eq!(rt; taken, [true, false, true, false, true]);
+        assert_eq!(rt; sink.bytes(), b"xxx".as_slice());
+        Ok(())
+    }
+}

@@ -57,3 +57,41 @@ impl<R: Print> Sink for OutSink<R> {
         }
     }
 }
+
+#[cfg(test)]
+mod tests {
+    use super::*;
+    use std::fmt::Display;
+    use std::io;
+
+    // A device that takes nothing.
+    struct Full;
+
+    impl Print for Full {
+        fn print<D: Display + Drop>(&self, _value: D) -> io::Result<()> {
+            Ok(())
+        }
+
+        fn println<D: Display + Drop>(&self, _value: D) -> io::Result<()> {
+            Ok(())
+        }
+
+        fn write_all(&self, _bytes: &[u8]) -> io::Result<()> {
+            Ok(())
+        }
+
+        fn write_some(&self, _bytes: &[u8]) -> io::Result<usize> {
+            Ok(0)
+        }
+    }
+
+    #[test]
+    fn writes_and_fails_on_a_full_device(rt: HostRuntime) {
+        let mut out = OutSink::new(&rt);
+        assert_eq!(rt; out.write(b""), Ok(0));
+        assert_eq!(rt; out.write(b"."), Ok(1));
+        let mut full = OutSink::new(&Full);
+        assert_eq!(rt; full.write(b""), Ok(0));
+        assert_eq!(rt; full.write(b"."), Err(Failed));
+    }
+}

@@ -6,12 +6,15 @@ use Rattle.tm_rv.specs.Table.{Format, RType, IType, SType, BType, UType, JType, 
 use Rattle.tm_rv.specs.Instr.{split}
 use Rattle.tm_rv.specs.declared.instr.Instr.{Instr}
 
+-- the opcode of these bits
 abbrev pub has_opcode : ℕ → ℕ → Bool
 has_opcode bits opcode = opcode == bits % 2 ^ 7
 
+-- the opcode and funct3 of these bits
 abbrev pub has_funct3 : ℕ → ℕ → ℕ → Bool
 has_funct3 bits opcode funct3 = has_opcode bits opcode && funct3 == bits / 2 ^ 12 % 2 ^ 3
 
+-- the opcode, funct3 and funct7 of these bits
 abbrev pub has_funct7 : ℕ → ℕ → ℕ → ℕ → Bool
 has_funct7 bits opcode funct3 funct7 = has_funct3 bits opcode funct3 && funct7 == bits / 2 ^ 25
 

@@ -26,12 +26,15 @@ imm_of JType word =
 imm_of ShiftType word = field word 24 20
 imm_of WordType word = 0
 
+-- the number of the register that is written
 abbrev pub rd_of : ℕ → ℕ
 rd_of word = field word 11 7
 
+-- the number of the first register that is read
 abbrev pub rs1_of : ℕ → ℕ
 rs1_of word = field word 19 15
 
+-- the number of the second register that is read
 abbrev pub rs2_of : ℕ → ℕ
 rs2_of word = field word 24 20
 

@@ -23,6 +23,7 @@ pub record Row : Type 0 where
   pub mask : ℕ
   pub bits : ℕ
 
+-- a row of these parts
 abbrev pub row : Op → Format → ℕ → ℕ → Row
 row op format mask bits = record { op = op; format = format; mask = mask; bits = bits }
 

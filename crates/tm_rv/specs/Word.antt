@@ -21,5 +21,6 @@ placed WordType imm = 0
 abbrev pub joined : ℕ → ℕ → ℕ → ℕ → ℕ → ℕ
 joined bits rd rs1 rs2 immediate = bits + rd * 2 ^ 7 + rs1 * 2 ^ 15 + rs2 * 2 ^ 20 + immediate
 
+-- the word of an instruction
 abbrev pub word_of : Instr → ℕ
 word_of i = joined (row_for i.op).bits i.rd i.rs1 i.rs2 (placed (row_for i.op).format i.imm)

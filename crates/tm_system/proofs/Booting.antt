@@ -1,15 +1,14 @@
 -- The machine at boot, and what it takes of its image.
-use Rattle.std.proofs.Common.{◌≡◌, ℕ, ◌+◌, ◌<◌, ◌≤◌, List, [], ◌∷◌, length, refl, subst, ap, sym, ◌∙◌, arith, Option, Some, None, slice_get, unwrap_or, map, All, option_map}
+use Rattle.std.proofs.Common.{◌≡◌, ℕ, ◌<◌, [], length, refl, subst, ap, sym, ◌∙◌, Option, Some, slice_get, unwrap_or, option_map}
 use Rattle.std.proofs.lemmas.Option.{slice_get-get_or, unwrap_or-slice_get, slice_get-map}
 use Rattle.std.proofs.lemmas.List.{length-map}
 use Rattle.std.proofs.lemmas.List.Elements.{All-get_or}
 use Rattle.tm_marker.specs.declared.body.Body.{Body}
-use Rattle.tm_task.specs.Standing.{TaskView, booted_task, boot_body}
+use Rattle.tm_task.specs.Standing.{booted_task, boot_body}
 use Rattle.tm_kernel.specs.State.{KernelState, booted}
-use Rattle.tm_image.specs.Image.{ImageView, Load, IsImage, IsLoad, load_of, entry_of, text_of, words_of}
-use Rattle.tm_system.specs.History.{History}
-use Rattle.tm_system.specs.Run.{boot, body_at, no_body}
-use Rattle.tm_system.specs.Marks.{backs, epochs, standing_at}
+use Rattle.tm_image.specs.Image.{ImageView, Load, IsImage, IsLoad, load_of, entry_of, words_of}
+use Rattle.tm_system.specs.Run.{body_at, no_body}
+use Rattle.tm_system.specs.Marks.{backs, epochs}
 use Rattle.tm_system.specs.Machine.{MachineView, IsAt, task_at}
 use Rattle.tm_system.specs.Parts.{AreBooted}
 use Rattle.tm_system.proofs.Marking.{same_standing}

@@ -1,5 +1,5 @@
 -- The parts of an answered call, as the machine does them, are the run's moment.
-use Rattle.std.proofs.Common.{◌≡◌, ℕ, ◌<◌, Bool, refl, ap, sym, ◌∙◌, subst, List, ◌∷◌, length, length-set, Option, Some, None, ◌==◌, if◌then◌else◌, slice_get, slice_set}
+use Rattle.std.proofs.Common.{◌≡◌, ℕ, Bool, refl, ap, sym, ◌∙◌, List, ◌∷◌, length, length-set, Option, Some, None, ◌==◌, if◌then◌else◌, slice_get, slice_set}
 use Rattle.std.proofs.lemmas.Option.{same_Some}
 use Rattle.tm_marker.specs.declared.entries.DataEntry.{DataEntry}
 use Rattle.tm_marker.specs.declared.entries.OutputEntry.{OutputEntry}
@@ -7,8 +7,7 @@ use Rattle.tm_marker.specs.declared.entries.Switch.{Switch}
 use Rattle.tm_marker.specs.declared.entries.Kind.{Kind}
 use Rattle.tm_task.specs.Exec.{exec, Calls}
 use Rattle.tm_task.specs.Standing.{TaskView, answered, begins_epoch, args_of}
-use Rattle.tm_kernel.specs.declared.kernel.Need.{Need}
-use Rattle.tm_kernel.specs.State.{KernelState, IsKernel, IsRunning, nobody}
+use Rattle.tm_kernel.specs.State.{KernelState, IsKernel, nobody}
 use Rattle.tm_kernel.specs.Service.{Answered, answer}
 use Rattle.tm_kernel.specs.Schedule.{rescheduled}
 use Rattle.tm_image.specs.Image.{ImageView, text_of}
@@ -17,7 +16,7 @@ use Rattle.tm_system.specs.History.{History}
 use Rattle.tm_system.specs.Run.{body_at, next_moment, left_by}
 use Rattle.tm_system.specs.Machine.{MachineView, IsAt, IsMachine, told_of}
 use Rattle.tm_system.specs.Parts.{RepliesTo, switched}
-use Rattle.tm_system.proofs.Turning.{Runs, runs_of, call_at, call_told, call_switch, call_spec, sound_after}
+use Rattle.tm_system.proofs.Turning.{Runs, call_at, call_told, call_switch, call_spec, sound_after}
 
 -- the kernel answered, then the task had its reply, then the kernel rescheduled
 pub record IsCalled (old middle new : MachineView) (r service : ℕ) (before : TaskView) (args : List ℕ) (kernel : KernelState) (entry : DataEntry) : Type 0 where

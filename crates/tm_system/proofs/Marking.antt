@@ -1,5 +1,5 @@
 -- How one moment moves the marks of a task.
-use Rattle.std.proofs.Common.{◌≡◌, ◌≢◌, ℕ, ◌+◌, Bool, true, false, ◌&&◌, ◌||◌, ◌==◌, List, ◌∷◌, refl, ap, sym, ◌∙◌, inl, inr, Option, Some, None, slice_get, unwrap_or}
+use Rattle.std.proofs.Common.{◌≡◌, ◌≢◌, ℕ, ◌+◌, Bool, true, false, ◌&&◌, ◌==◌, List, ◌∷◌, refl, ap, sym, ◌∙◌, inl, inr, Option, None, slice_get, unwrap_or}
 use Rattle.std.proofs.lemmas.Bool.{cases_Bool, eq-eqb, ne_eqb}
 use Rattle.tm_marker.specs.declared.body.Body.{Body}
 use Rattle.tm_marker.specs.declared.entries.DataEntry.{DataEntry}
@@ -7,12 +7,11 @@ use Rattle.tm_marker.specs.declared.entries.OutputEntry.{OutputEntry}
 use Rattle.tm_marker.specs.declared.entries.Kind.{Kind}
 use Rattle.tm_marker.specs.declared.marker.TheConstants.{EPOCH_LENGTH}
 use Rattle.tm_task.specs.declared.outcome.Cause.{Cause}
-use Rattle.tm_task.specs.Standing.{Standing, TaskView, task_view, went, answered, begins_epoch, reply}
+use Rattle.tm_task.specs.Standing.{Standing, went, answered, begins_epoch, reply}
 use Rattle.tm_image.specs.Image.{ImageView, entry_of}
 use Rattle.tm_system.specs.History.{Deed, Arrives, Steps, Answers, Faulted, Whole, Moment, History}
 use Rattle.tm_system.specs.Run.{now, body_at, no_body}
 use Rattle.tm_system.specs.Marks.{is_back, begins, is_start, backs, epochs, standing_at}
-use Rattle.tm_system.specs.Machine.{task_at}
 
 -- the marks after a moment, by whether it starts an epoch of the task
 pub epochs_start : (t : ℕ) (m : Moment) (h : History) → is_start t m.deed (backs t h) ≡ true → epochs t (m ∷ h) ≡ epochs t h + 1

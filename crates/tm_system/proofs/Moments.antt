@@ -1,18 +1,17 @@
 -- The machine stands where the run does, through one moment more.
-use Rattle.std.proofs.Common.{◌≡◌, ◌≢◌, ℕ, ◌<◌, ◌≤◌, ◌⊎◌, Bool, true, false, ◌||◌, not, ◌==◌, if◌then◌else◌, List, [], ◌∷◌, length, refl, subst, ap, sym, ◌∙◌, inl, inr, arith, Option, Some, None, is_some, slice_get, slice_set, length-set, unwrap_or}
-use Rattle.std.proofs.lemmas.Bool.{cases_Bool, cases_eq, eq-eqb, ne_eqb}
-use Rattle.std.proofs.lemmas.Option.{slice_get_within, same_Some}
+use Rattle.std.proofs.Common.{◌≡◌, ◌≢◌, ℕ, ◌<◌, ◌||◌, not, ◌==◌, if◌then◌else◌, List, ◌∷◌, length, refl, subst, ap, sym, ◌∙◌, inl, inr, arith, Option, Some, None, is_some, slice_get, slice_set, length-set, unwrap_or}
+use Rattle.std.proofs.lemmas.Bool.{cases_eq, eq-eqb, ne_eqb}
 use Rattle.tm_kernel.proofs.Keeping.{slice_get_set_same, slice_get_set_other}
 use Rattle.tm_marker.specs.declared.body.Body.{Body}
 use Rattle.tm_marker.specs.declared.marker.Marker.{Marker}
 use Rattle.tm_marker.specs.declared.entries.Switch.{Switch}
 use Rattle.tm_marker.specs.declared.entries.Kind.{Kind}
-use Rattle.tm_task.specs.Standing.{Standing, TaskView, marker_of}
+use Rattle.tm_task.specs.Standing.{Standing, TaskView}
 use Rattle.tm_kernel.specs.State.{KernelState, nobody}
 use Rattle.tm_image.specs.Image.{ImageView, entry_of}
-use Rattle.tm_system.specs.History.{Deed, Whole, Moment, History}
-use Rattle.tm_system.specs.Run.{now, running_at, body_at, no_body}
-use Rattle.tm_system.specs.Marks.{standing_at, marker_at}
+use Rattle.tm_system.specs.History.{Moment, History}
+use Rattle.tm_system.specs.Run.{now, running_at, no_body}
+use Rattle.tm_system.specs.Marks.{marker_at}
 use Rattle.tm_system.specs.Controls.{kind_by, is_switch, switch_at}
 use Rattle.tm_system.specs.Machine.{MachineView, IsAt, task_at}
 use Rattle.tm_system.specs.Parts.{IsTaskOrNobody, marker_by, marker_in, switched}

@@ -1,14 +1,12 @@
 -- A step of the running task, as a turn of the machine.
-use Rattle.std.proofs.Common.{◌≡◌, ◌≢◌, ℕ, ◌<◌, ◌≤◌, ◌^◌, refl, ap, sym, ◌∙◌, subst, arith, inl, inr, List, ◌∷◌, length, Option, Some, None, IfSome, slice_get, slice_set, get_or, false}
-use Rattle.std.proofs.lemmas.Option.{slice_get_within, same_Some, get_or_from_slice_get}
+use Rattle.std.proofs.Common.{◌≡◌, ◌≢◌, ℕ, ◌<◌, ◌^◌, ap, sym, ◌∙◌, subst, arith, inl, inr, List, ◌∷◌, length, Option, Some, None, IfSome, slice_get, slice_set, false}
+use Rattle.std.proofs.lemmas.Option.{get_or_from_slice_get}
 use Rattle.std.proofs.lemmas.List.{set-get_or}
-use Rattle.tm_marker.specs.declared.body.Body.{Body}
 use Rattle.tm_task.specs.declared.outcome.Cause.{Cause}
-use Rattle.tm_task.specs.declared.outcome.Stepped.{Stepped}
 use Rattle.tm_task.specs.declared.outcome.Stepped.TheVariants.{Ran, Forced, Call, Fault}
 use Rattle.tm_task.specs.Exec.{exec, Calls, Faults}
 use Rattle.tm_task.specs.Standing.{TaskView}
-use Rattle.tm_task.specs.Stepped.{Went, DidRun, DidForce, DidCall, DidFault}
+use Rattle.tm_task.specs.Stepped.{Went, DidRun, DidForce}
 use Rattle.tm_kernel.specs.State.{IsRunning, nobody}
 use Rattle.tm_image.specs.Image.{ImageView, IsImage, text_of}
 use Rattle.tm_system.specs.declared.machine.Told.{Told}

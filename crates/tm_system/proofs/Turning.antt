@@ -1,6 +1,6 @@
 -- Each moment of the machine is the run's.
-use Rattle.std.proofs.Common.{◌≡◌, ◌≢◌, ℕ, ◌+◌, ◌^◌, ◌<◌, ◌≤◌, Bool, true, false, ◌&&◌, ◌||◌, not, ◌==◌, if◌then◌else◌, List, [], ◌∷◌, length, refl, subst, ap, sym, ◌∙◌, inl, inr, arith, Option, Some, None, is_some, IfSome, slice_get, slice_set, length-set, unwrap_or, map, All}
-use Rattle.std.proofs.lemmas.Bool.{cases_Bool, cases_eq, eq-eqb, ne_eqb}
+use Rattle.std.proofs.Common.{◌≡◌, ◌≢◌, ℕ, ◌+◌, ◌<◌, Bool, true, false, ◌&&◌, ◌==◌, if◌then◌else◌, List, ◌∷◌, length, refl, subst, ap, sym, ◌∙◌, inl, inr, arith, Option, Some, None, slice_get, slice_set}
+use Rattle.std.proofs.lemmas.Bool.{cases_Bool, eq-eqb, ne_eqb}
 use Rattle.std.proofs.lemmas.Option.{slice_get_within, same_Some}
 use Rattle.tm_marker.specs.declared.body.Body.{Body}
 use Rattle.tm_marker.specs.declared.entries.DataEntry.{DataEntry}
@@ -21,14 +21,14 @@ use Rattle.tm_kernel.proofs.Rescheduling.{rescheduling_same_rest, arrival_latche
 use Rattle.tm_kernel.proofs.Answering.{call_same_rest}
 use Rattle.tm_image.specs.Image.{ImageView, entry_of, text_of}
 use Rattle.tm_system.specs.declared.machine.Told.{Told}
-use Rattle.tm_system.specs.History.{Deed, Arrives, Steps, Answers, Faulted, Whole, Moment, History}
+use Rattle.tm_system.specs.History.{Steps, Answers, Faulted, Moment, History}
 use Rattle.tm_system.specs.Run.{now, running_at, body_at, arrival, arrives, moment_by, call_moment, left_by, next_moment, turned}
 use Rattle.tm_system.specs.Marks.{is_start, backs, standing_at}
 use Rattle.tm_system.specs.Controls.{is_switch, switch_at, output_of}
 use Rattle.tm_system.specs.Telling.{cause_of}
 use Rattle.tm_system.specs.Machine.{MachineView, IsAt, IsMachine, task_at, told_of, arrival_told, entry_told, checkpoint_told}
 use Rattle.tm_system.specs.Parts.{IsTaskOrNobody, switched}
-use Rattle.tm_system.proofs.Marking.{went_at, answered_at, steps_apart, answers_apart, faulted_apart, arrives_apart, step_moment, answer_moment}
+use Rattle.tm_system.proofs.Marking.{went_at, answered_at, steps_apart, answers_apart, faulted_apart, arrives_apart}
 use Rattle.tm_system.proofs.Moments.{rested, moved, body_put, switched-at}
 
 -- a task runs, one of the image's

@@ -1,5 +1,5 @@
 -- The lists that a run leaves: control entries, data entries, outputs, checkpoints.
-use Rattle.std.specs.Prelude.{ℕ, Bool, true, false, not, ◌||◌, ◌==◌, if◌then◌else◌, List, [], ◌∷◌, ◌++◌, length, Option, Some, None, unwrap_or, is_some, option_to_list}
+use Rattle.std.specs.Prelude.{ℕ, Bool, not, ◌||◌, ◌==◌, if◌then◌else◌, List, [], ◌∷◌, ◌++◌, length, Option, None, unwrap_or, is_some, option_to_list}
 use Rattle.tm_marker.specs.declared.body.Body.{Body}
 use Rattle.tm_marker.specs.declared.entries.DataEntry.{DataEntry}
 use Rattle.tm_marker.specs.declared.entries.OutputEntry.{OutputEntry}

@@ -1,18 +1,17 @@
 -- Runs of small images, held to what they must leave.
 use Rattle.std.specs.Prelude.{◌≡◌, ℕ, Bool, true, false, List, [], ◌∷◌, replicate, map}
 use Rattle.tm_marker.specs.declared.marker.Marker.{Marker}
-use Rattle.tm_marker.specs.declared.entries.DataEntry.{DataEntry}
 use Rattle.tm_marker.specs.declared.entries.Switch.{Switch}
 use Rattle.tm_marker.specs.declared.entries.Slice.{Slice}
 use Rattle.tm_marker.specs.declared.entries.Kind.{Kind}
-use Rattle.tm_marker.specs.declared.entries.Kind.TheVariants.{Preempted, Ends, Fault, Idle}
+use Rattle.tm_marker.specs.declared.entries.Kind.TheVariants.{Preempted, Ends, Idle}
 use Rattle.tm_kernel.specs.declared.spec.TaskSpec.{TaskSpec}
 use Rattle.tm_kernel.specs.declared.spec.Action.{Action}
 use Rattle.tm_kernel.specs.declared.spec.Action.TheVariants.{Nothing, Activate}
 use Rattle.tm_kernel.specs.State.{nobody}
-use Rattle.tm_image.specs.Image.{ImageView, Load}
-use Rattle.tm_system.specs.Run.{run, running_at, now}
-use Rattle.tm_system.specs.Controls.{controls, entries}
+use Rattle.tm_image.specs.Image.{ImageView}
+use Rattle.tm_system.specs.Run.{run}
+use Rattle.tm_system.specs.Controls.{controls}
 
 -- an image of basic tasks with these texts, each entered at 0, with one data word; the lines' actions
 abbrev pub image_of_texts : List TaskSpec → List (List ℕ) → List Action → ImageView

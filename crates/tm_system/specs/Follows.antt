@@ -1,7 +1,6 @@
 -- What a run is, apart from the script that played it: boot, and moments that each follow.
-use Rattle.std.specs.Prelude.{◌≡◌, ◌≢◌, ℕ, ◌<◌, ◌⊎◌, Bool, List, [], ◌∷◌, length, slice_set, Option, Some, None}
+use Rattle.std.specs.Prelude.{◌≡◌, ◌≢◌, ℕ, ◌<◌, ◌⊎◌, Bool, [], ◌∷◌, length, slice_set, Option, Some, None}
 use Rattle.tm_marker.specs.declared.entries.DataEntry.{DataEntry}
-use Rattle.tm_marker.specs.declared.entries.OutputEntry.{OutputEntry}
 use Rattle.tm_marker.specs.declared.entries.Kind.{Kind}
 use Rattle.tm_marker.specs.declared.entries.Kind.TheVariants.{Preempted, Waits, Ends, Fault, Shutdown, Idle}
 use Rattle.tm_task.specs.declared.outcome.Cause.{Cause}

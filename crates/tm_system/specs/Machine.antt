@@ -1,9 +1,7 @@
 -- What the machine has at a moment of a run, and what it tells of one.
-use Rattle.std.specs.Prelude.{◌≡◌, ◌≢◌, ℕ, ◌+◌, ◌*◌, ◌^◌, ◌<◌, ◌≤◌, Bool, ◌==◌, if◌then◌else◌, List, [], ◌∷◌, map, length, slice_get, Option, Some, None}
+use Rattle.std.specs.Prelude.{◌≡◌, ℕ, ◌<◌, ◌==◌, if◌then◌else◌, List, length, slice_get, Option, Some, None}
 use Rattle.tm_marker.specs.declared.entries.DataEntry.{DataEntry}
-use Rattle.tm_marker.specs.declared.entries.OutputEntry.{OutputEntry}
-use Rattle.tm_marker.specs.declared.entries.Switch.{Switch}
-use Rattle.tm_task.specs.Standing.{Standing, TaskView, IsTask}
+use Rattle.tm_task.specs.Standing.{TaskView}
 use Rattle.tm_kernel.specs.State.{KernelState, IsKernel, nobody}
 use Rattle.tm_image.specs.Image.{ImageView, entry_of}
 use Rattle.tm_system.specs.declared.machine.Told.{Told}

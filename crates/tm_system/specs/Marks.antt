@@ -1,11 +1,11 @@
 -- The marker of a task, counted over the whole run.
-use Rattle.std.specs.Prelude.{ℕ, ◌+◌, Bool, false, ◌&&◌, ◌||◌, ◌==◌, if◌then◌else◌, List, [], ◌∷◌}
+use Rattle.std.specs.Prelude.{ℕ, ◌+◌, Bool, false, ◌&&◌, ◌||◌, ◌==◌, if◌then◌else◌, [], ◌∷◌}
 use Rattle.tm_marker.specs.declared.marker.Marker.{Marker}
 use Rattle.tm_marker.specs.declared.marker.TheConstants.{EPOCH_LENGTH}
-use Rattle.tm_task.specs.Standing.{Standing, TaskView, begins_epoch, marker_of}
+use Rattle.tm_task.specs.Standing.{Standing, begins_epoch, marker_of}
 use Rattle.tm_kernel.specs.State.{nobody}
-use Rattle.tm_image.specs.Image.{ImageView, entry_of}
-use Rattle.tm_system.specs.History.{Deed, Arrives, Steps, Answers, Faulted, Moment, History}
+use Rattle.tm_image.specs.Image.{ImageView}
+use Rattle.tm_system.specs.History.{Deed, Arrives, Steps, Answers, Faulted, History}
 use Rattle.tm_system.specs.Run.{body_at}
 
 -- the deed is a backward transfer of the task

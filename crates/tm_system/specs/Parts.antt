@@ -1,5 +1,5 @@
 -- What the parts of a moment make of a machine.
-use Rattle.std.specs.Prelude.{◌≡◌, ℕ, ◌+◌, ◌^◌, ◌<◌, ◌⊎◌, Bool, ◌||◌, not, ◌==◌, if◌then◌else◌, List, length, slice_get, slice_set, Option, Some, None, is_some}
+use Rattle.std.specs.Prelude.{◌≡◌, ℕ, ◌^◌, ◌<◌, ◌⊎◌, ◌||◌, not, ◌==◌, if◌then◌else◌, List, length, slice_get, slice_set, Option, Some, None, is_some}
 use Rattle.tm_marker.specs.declared.marker.Marker.{Marker}
 use Rattle.tm_marker.specs.declared.entries.DataEntry.{DataEntry}
 use Rattle.tm_marker.specs.declared.entries.Switch.{Switch}

@@ -1,5 +1,5 @@
 -- The run of a script on an image.
-use Rattle.std.specs.Prelude.{ℕ, zero, suc, Bool, true, ◌==◌, if◌then◌else◌, List, [], ◌∷◌, map, fold, slice_get, slice_set, Option, Some, None, unwrap_or}
+use Rattle.std.specs.Prelude.{ℕ, zero, suc, true, ◌==◌, if◌then◌else◌, List, [], ◌∷◌, map, fold, slice_get, slice_set, Option, Some, None, unwrap_or}
 use Rattle.tm_marker.specs.declared.body.Body.{Body}
 use Rattle.tm_marker.specs.declared.entries.Slice.{Slice}
 use Rattle.tm_marker.specs.declared.entries.Kind.{Kind}
@@ -8,11 +8,11 @@ use Rattle.tm_task.specs.Exec.{Exec, Faults, Calls, Goes, exec}
 use Rattle.tm_task.specs.Standing.{boot_body, reply, args_of}
 use Rattle.tm_kernel.specs.declared.kernel.Need.{Need}
 use Rattle.tm_kernel.specs.declared.kernel.Need.TheVariants.{Goes as Continues, Leaves}
-use Rattle.tm_kernel.specs.State.{KernelState, nobody, booted}
+use Rattle.tm_kernel.specs.State.{nobody, booted}
 use Rattle.tm_kernel.specs.Service.{Answered, answer}
 use Rattle.tm_kernel.specs.Schedule.{rescheduled, arrived, stopped}
-use Rattle.tm_image.specs.Image.{ImageView, Load, entry_of, text_of}
-use Rattle.tm_system.specs.History.{Deed, Arrives, Steps, Answers, Faulted, Whole, Moment, History}
+use Rattle.tm_image.specs.Image.{ImageView, entry_of, text_of}
+use Rattle.tm_system.specs.History.{Arrives, Steps, Answers, Faulted, Whole, Moment, History}
 
 -- the whole state at boot: each task's boot body, and the kernel's boot state
 abbrev pub boot : ImageView → Whole

@@ -1,5 +1,5 @@
 -- The text of a run from a point, as the spelling of what it tells.
-use Rattle.std.specs.Prelude.{ℕ, zero, suc, Bool, ◌&&◌, ◌||◌, ◌==◌, nat_le, nat_lt, if◌then◌else◌, List, [], ◌∷◌, ◌++◌, length, slice_get, replicate, Option, Some, None, option_to_list}
+use Rattle.std.specs.Prelude.{ℕ, zero, suc, Bool, ◌&&◌, ◌||◌, ◌==◌, nat_le, nat_lt, if◌then◌else◌, List, [], ◌∷◌, ◌++◌, length, slice_get, Option, Some, None, option_to_list}
 use Rattle.tm_marker.specs.declared.entries.OutputEntry.{OutputEntry}
 use Rattle.tm_marker.specs.declared.entries.Slice.{Slice}
 use Rattle.tm_task.specs.Cause.{cause_number}
@@ -10,7 +10,7 @@ use Rattle.tm_image.specs.Image.{ImageView}
 use Rattle.tm_system.specs.History.{Deed, Arrives, Steps, Answers, Faulted, Moment, History}
 use Rattle.tm_system.specs.Run.{now, running_at, body_at, run}
 use Rattle.tm_system.specs.Marks.{marker_at}
-use Rattle.tm_system.specs.Controls.{is_switch, switch_at, controls, output_of}
+use Rattle.tm_system.specs.Controls.{is_switch, switch_at, controls}
 
 -- the history at point p: boot for point 0, else right after the p-th control entry
 unfoldable pub upto : ImageView → ℕ → History → History

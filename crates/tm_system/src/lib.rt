@@ -12,3 +12,6 @@ mod runs;
 pub use laws::examples;
 pub use machine::{Machine, Told};
 pub use runs::scripts_are_runs;
+
+#[cfg(test)]
+mod tests;

@@ -1,17 +1,15 @@
-use Rattle.std.proofs.Common.{◌≡◌, ℕ, ◌<◌, Bool, true, false, refl, ap, sym, ◌∙◌, subst, arith, ◌∷◌, length, get_or, Some, slice_get, if◌then◌else◌, None, Option}
+use Rattle.std.proofs.Common.{◌≡◌, ℕ, ◌<◌, Bool, true, false, refl, ap, sym, ◌∙◌, subst, arith, length, get_or, Some, slice_get, if◌then◌else◌, None}
 use Rattle.std.proofs.lemmas.Option.{slice_get_read}
 use Rattle.std.specs.Bool.{then_some}
-use Rattle.tm_task.specs.Exec.{exec, Calls}
 use Rattle.tm_task.specs.Standing.{begins_epoch}
 use Rattle.tm_kernel.specs.declared.kernel.Need.{Need}
-use Rattle.tm_kernel.specs.State.{KernelState, IsRunning}
-use Rattle.tm_kernel.specs.Service.{answer}
+use Rattle.tm_kernel.specs.State.{IsRunning}
 use Rattle.tm_kernel.specs.Schedule.{rescheduled}
-use Rattle.tm_image.specs.Image.{ImageView, text_of}
+use Rattle.tm_image.specs.Image.{ImageView}
 use Rattle.tm_system.specs.declared.machine.Told.{Told}
 use Rattle.tm_system.specs.History.{History}
-use Rattle.tm_system.specs.Run.{body_at, next_moment, left_by}
-use Rattle.tm_system.specs.Machine.{MachineView, IsAt, IsMachine}
+use Rattle.tm_system.specs.Run.{left_by}
+use Rattle.tm_system.specs.Machine.{MachineView, IsAt}
 use Rattle.tm_system.proofs.Turning.{Runs, runs_of}
 use Rattle.tm_system.proofs.Calling.{IsCalled, called_at, called_told, called_spec}
 use Rattle.tm_system.proofs.machine.Machine.answer.Goals as goal

@@ -1,4 +1,4 @@
-use Rattle.std.proofs.Common.{◌≡◌, ℕ, refl, ap, sym, ◌∙◌, subst, List, ◌∷◌, length, Option, Some, None, ◌==◌}
+use Rattle.std.proofs.Common.{◌≡◌, ℕ, refl, ap, sym, ◌∙◌, subst, List, ◌∷◌, length, Option, None, ◌==◌}
 use Rattle.tm_marker.specs.declared.entries.Switch.{Switch}
 use Rattle.tm_kernel.specs.State.{KernelState, IsKernel, nobody}
 use Rattle.tm_kernel.specs.Schedule.{rescheduled, arrived}

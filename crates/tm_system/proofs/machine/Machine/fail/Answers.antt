@@ -1,11 +1,8 @@
-use Rattle.std.proofs.Common.{◌≡◌, ap, sym, ◌∙◌, subst, true, ◌∷◌, ◌==◌, length}
+use Rattle.std.proofs.Common.{ap, sym, ◌∙◌, subst, true, ◌∷◌, ◌==◌, length}
 use Rattle.tm_kernel.specs.State.{KernelState, nobody}
 use Rattle.tm_kernel.specs.Schedule.{stopped}
-use Rattle.tm_task.specs.Exec.{exec, Faults}
-use Rattle.tm_image.specs.Image.{ImageView, text_of}
 use Rattle.tm_system.specs.declared.machine.Told.{Told}
-use Rattle.tm_system.specs.History.{History}
-use Rattle.tm_system.specs.Run.{body_at, next_moment}
+use Rattle.tm_system.specs.Run.{next_moment}
 use Rattle.tm_system.specs.Machine.{MachineView, IsAt, IsMachine}
 use Rattle.tm_system.proofs.Turning.{Runs, runs_of, fault_at, fault_told, fault_switch}
 use Rattle.tm_system.proofs.machine.Machine.fail.Goals as goal

@@ -1,9 +1,6 @@
-use Rattle.std.proofs.Common.{◌≡◌, ◌≢◌, ℕ, ◌<◌, ap, sym, ◌∙◌, subst, length, List}
+use Rattle.std.proofs.Common.{ap, sym, ◌∙◌, subst}
 use Rattle.tm_kernel.specs.State.{IsRunning}
-use Rattle.tm_image.specs.Image.{ImageView, IsImage, text_of}
-use Rattle.tm_system.specs.History.{History}
-use Rattle.tm_system.specs.Machine.{MachineView, IsAt, IsMachine}
-use Rattle.tm_system.proofs.Turning.{Runs}
+use Rattle.tm_system.specs.Machine.{MachineView, IsMachine}
 use Rattle.tm_system.proofs.Stepping.{Turns, turns_of, turn_runs, turn_somebody, running_there, running_in, running_loaded, ran_at, ran_tells, forced_at, forced_tells, call_stays, fault_stays, caller_ready, call_at_turn, call_told_turn, fault_at_turn, fault_told_turn}
 use Rattle.tm_system.proofs.machine.Machine.turn.Goals as goal
 
