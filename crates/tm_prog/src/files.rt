@@ -1,6 +1,6 @@
 //! How the files that a call names are read.
 
-ghost use Rattle.std.specs.Prelude.{◌≡◌, ◌≢◌, ℕ, ◌<◌, ◌≤◌, Some, None, length, IsTrue, IsSome, IsSomeAnd, IfOk, IfErr};
+ghost use Rattle.std.specs.Prelude.{◌≡◌, ◌≢◌, ℕ, ◌^◌, ◌<◌, ◌≤◌, Some, None, length, IsTrue, IsSome, IsSomeAnd, IfOk, IfErr};
 ghost use Rattle.tm_io.specs.Counts.{Rose};
 ghost use Rattle.tm_prog.specs.declared.status.Status.{Status};
 ghost use Rattle.tm_prog.specs.Answer.{image_in, script_in};
@@ -74,6 +74,7 @@ pub(crate) fn image_file<F: Shelf>(
 }
 
 /// The plan in the second file.
+#[tactic(auto, using(crate::proofs::Scripts::few_slices))]
 pub(crate) fn plan_file<F: Shelf>(alloc: Global, shelf: &mut F, name: &str) -> Result<Plan, Status>
     ensures shelf { OnlyGets F.tells F.content F.gets F.puts F.calm F.room shelf.old shelf.new }
     ensures read { IsTrue (F.tells shelf.old) →
@@ -82,6 +83,7 @@ pub(crate) fn plan_file<F: Shelf>(alloc: Global, shelf: &mut F, name: &str) -> R
     ensures refused { IsTrue (F.tells shelf.old) → (file : ℕ) →
         result ≡ Err (Status.NotBuilt file) →
         IsSomeAnd (F.content shelf.old name.now) (λ bytes. script_in bytes ≡ None) }
+    ensures few { IfOk result (λ plan. length plan < 2 ^ 32) }
     ensures only { IfErr result (IsUnreadOf 2) }
     ensures counted { result ≡ Err Status.ReadFault → Rose (F.gets shelf.old) (F.gets shelf.new) }
     ensures calm { IsTrue (F.tells shelf.old) → IsTrue (F.calm shelf.old) →

@@ -1,4 +1,4 @@
-use Rattle.std.proofs.Common.{rules, arith}
+use Rattle.std.proofs.Common.{rules}
 use Rattle.tm_prog.proofs.Gains.{gained_more}
 use Rattle.tm_prog.proofs.write.write_all.Goals as goal
 
