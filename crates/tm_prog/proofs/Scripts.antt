@@ -41,8 +41,12 @@ length-after_header header (first ∷ rest) body e =
 length-body_of : (header text : List ℕ) (body : List (List ℕ)) →
     body_of header text ≡ Some body → length body ≤ length text
 length-body_of header text body e =
-    omega (arith, length-pieces text, length-after_header header (pieces text) body
-        (tested (is_ended text) (after_header header (pieces text)) body e))
+    omega (
+      arith,
+      length-pieces text,
+      length-after_header header (pieces text) body
+          (tested (is_ended text) (after_header header (pieces text)) body e),
+    )
 
 length-then_some : (test : Bool) (slices after : List Slice) (slice : Slice) →
     then_some test (slices ++ slice ∷ []) ≡ Some after → length after ≡ length slices + 1
@@ -56,7 +60,7 @@ length-plan_line : (slices after : List Slice) (words : List (List ℕ)) →
 length-plan_line slices after [] e = cc e
 length-plan_line slices after (keyword ∷ words) e =
     let said = bound (slice_in words) (new_slice slices) after
-        (tested (bytes_eq keyword (codes "slice")) (slice_in words >>= new_slice slices) after e) in
+    (tested (bytes_eq keyword (codes "slice")) (slice_in words >>= new_slice slices) after e) in
     length-then_some _ slices after said.0 said.1.1
 
 length-lines_on : (slices all : List Slice) (lines : List (List ℕ)) →

@@ -3,3 +3,5 @@ pub mod Answer
 pub mod Status
 pub mod Reading
 pub mod Outcome
+pub mod Teller
+pub mod Tracing

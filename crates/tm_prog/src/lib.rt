@@ -13,10 +13,13 @@ ghost use Rattle.tm_prog.specs.Command.{command_of, texts};
 ghost use Rattle.tm_prog.specs.Outcome.{Answers, IsDone, IsReady, NoneRose};
 
 mod answer;
+mod ending;
 mod files;
 mod limits;
 mod status;
+mod teller;
 mod trace;
+mod views;
 mod words;
 mod write;
 

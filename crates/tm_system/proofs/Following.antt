@@ -43,7 +43,7 @@ boot_sound image i = record {
   spec = refl;
   kernel = booted_keeps image.spec i.spec;
   bodies = length-map image.loads _;
-  idle = λ ended. absurd (ended refl)
+  idle = λ ended. absurd (ended refl);
 }
 
 -- nobody runs, or a task of the image
@@ -51,8 +51,8 @@ in_image : (image : ImageView) (k : KernelState) → IsImage image → k.spec �
     (k.running ≡ nobody) ⊎ (k.running < length k.spec.tasks) → (k.running ≡ nobody) ⊎ (k.running < length image.loads)
 in_image image k i spec runs =
     elim runs [
-      inl e ↦ inl e
-    | inr lt ↦ inr (let same : length image.loads ≡ length k.spec.tasks = i.loads ∙ ap (λ s. length s.tasks) (sym spec) in rw same lt)
+      | inl e ↦ inl e
+      | inr lt ↦ inr (let same : length image.loads ≡ length k.spec.tasks = i.loads ∙ ap (λ s. length s.tasks) (sym spec) in rw same lt)
     ]
 
 -- the kernel after a rescheduling
@@ -78,14 +78,14 @@ arrival_good image h mask ports i s goes =
       follows = record {
         goes = goes;
         did = record { bodies = refl; leaves = refl; keeps = arrival_goes_on k mask ports s.kernel; ended = ended };
-        runs = runs_in_image image a i sound spec
+        runs = runs_in_image image a i sound spec;
       };
       sound = record {
         spec = (rescheduling_same_rest a).spec ∙ spec;
         kernel = rescheduling_keeps a sound;
         bodies = s.bodies;
-        idle = λ stopped. absurd (stopped ended)
-      }
+        idle = λ stopped. absurd (stopped ended);
+      };
     }
 
 -- where a task runs, it is one of the image's, and the run has not ended
@@ -93,19 +93,19 @@ pub running_in : (image : ImageView) (h : History) → IsImage image → IsSound
     running_at image h < length image.loads
 running_in image h i s somebody =
     elim s.kernel.running [
-      inl e ↦ absurd (somebody e)
-    | inr g ↦
-        let within = slice_get_within _ _ _ g in
-        let same : length (now image h).kernel.states ≡ length image.loads =
-            s.kernel.states ∙ ap (λ s. length s.tasks) s.spec ∙ sym i.loads in
-        rw (← same) within
+      | inl e ↦ absurd (somebody e)
+      | inr g ↦
+          let within = slice_get_within _ _ _ g in
+          let same : length (now image h).kernel.states ≡ length image.loads =
+          s.kernel.states ∙ ap (λ s. length s.tasks) s.spec ∙ sym i.loads in
+          rw (← same) within
     ]
 
 goes_still : (image : ImageView) (h : History) → IsSoundAt image h → running_at image h ≢ nobody → (now image h).kernel.ended ≡ 0
 goes_still image h s somebody =
     elim (cases_Bool ((now image h).kernel.ended == 0)) [
-      inl e ↦ eqb-true _ _ e
-    | inr e ↦ absurd (somebody (s.idle (eqb-false _ _ e)))
+      | inl e ↦ eqb-true _ _ e
+      | inr e ↦ absurd (somebody (s.idle (eqb-false _ _ e)))
     ]
 
 -- the running task goes on
@@ -118,7 +118,7 @@ step_good image h next back i s somebody e =
     let there : t < length image.loads = running_in image h i s somebody in
     let within : t < length (now image h).bodies = rw s.bodies there in
     let put : unwrap_or (slice_get (slice_set (now image h).bodies t next) t) no_body ≡ next =
-        ap (λ o. unwrap_or o no_body) (slice_get_set_same (now image h).bodies t next within) in
+    ap (λ o. unwrap_or o no_body) (slice_get_set_same (now image h).bodies t next within) in
     record {
       follows = record {
         goes = goes_still image h s somebody;
@@ -127,21 +127,21 @@ step_good image h next back i s somebody e =
           executes = e ∙ ap (λ b. Goes b back) (sym put);
           bodies = ap (λ b. slice_set (now image h).bodies t b) (sym put);
           leaves = refl;
-          kernel = refl
+          kernel = refl;
         };
-        runs = inr there
+        runs = inr there;
       };
-      sound = record { spec = s.spec; kernel = s.kernel; bodies = length-set _ t next ∙ s.bodies; idle = s.idle }
+      sound = record { spec = s.spec; kernel = s.kernel; bodies = length-set _ t next ∙ s.bodies; idle = s.idle };
     }
 
 -- the entry of an answer has the called service's number
 answer_service : (k : KernelState) (task service : ℕ) (args : List ℕ) → (answer k task service args).entry.service ≡ service
 answer_service k task service args =
     elim (cases_Bool (service == 1)) [
-      inl e ↦ rw e (sym (eqb-true service 1 e))
-    | inr e ↦ rw e (elim (cases_Bool (service == 2)) [
-        inl f ↦ rw f (sym (eqb-true service 2 f))
-      | inr f ↦ rw f refl
+      | inl e ↦ rw e (sym (eqb-true service 1 e))
+      | inr e ↦ rw e (elim (cases_Bool (service == 2)) [
+        | inl f ↦ rw f (sym (eqb-true service 2 f))
+        | inr f ↦ rw f refl
       ])
     ]
 
@@ -173,7 +173,7 @@ call_good image h service i s somebody e =
     let there : t < length image.loads = running_in image h i s somebody in
     let runs : IsRunning k t = record {
       runs = refl;
-      there = (let same : length image.loads ≡ length k.states = i.loads ∙ ap (λ s. length s.tasks) (sym s.spec) ∙ sym s.kernel.states in rw (← same) there)
+      there = (let same : length image.loads ≡ length k.states = i.loads ∙ ap (λ s. length s.tasks) (sym s.spec) ∙ sym s.kernel.states in rw (← same) there);
     } in
     let sound : IsKernel a.kernel = call_keeps k t service (args_of b) s.kernel runs in
     let rest = call_same_rest k t service (args_of b) in
@@ -187,16 +187,16 @@ call_good image h service i s somebody e =
           calls = e ∙ ap Calls (sym (answer_service k t service (args_of b)));
           bodies = refl;
           next = can_run_next k t service (args_of b) s.kernel runs a.need refl;
-          ended = ended ∙ sym (ended_by_call k t service (args_of b) a.need refl)
+          ended = ended ∙ sym (ended_by_call k t service (args_of b) a.need refl);
         };
-        runs = runs_in_image image a.kernel i sound spec
+        runs = runs_in_image image a.kernel i sound spec;
       };
       sound = record {
         spec = (rescheduling_same_rest a.kernel).spec ∙ spec;
         kernel = rescheduling_keeps a.kernel sound;
         bodies = length-set _ t _ ∙ s.bodies;
-        idle = λ stopped. absurd (stopped ended)
-      }
+        idle = λ stopped. absurd (stopped ended);
+      };
     }
 
 -- the running task faults
@@ -213,16 +213,16 @@ fault_good image h cause i s somebody e = record {
       bodies = refl;
       leaves = refl;
       nobody_runs = refl;
-      ended = refl
+      ended = refl;
     };
-    runs = inl refl
+    runs = inl refl;
   };
   sound = record {
     spec = s.spec;
     kernel = stopped_keeps (now image h).kernel true s.kernel;
     bodies = s.bodies;
-    idle = λ _. refl
-  }
+    idle = λ _. refl;
+  };
 }
 
 -- the running task's instruction, whatever it does
@@ -238,15 +238,15 @@ pub arrives_good : (image : ImageView) (h : History) (mask : ℕ) (ports : List 
     IsGoodRun image (arrives image mask ports h)
 arrives_good image h mask ports i r =
     elim (cases_Bool ((now image h).kernel.ended == 0)) [
-      inl e ↦ rw e (good_more image h _ r (arrival_good image h mask ports i r.sound (eqb-true _ _ e)))
-    | inr e ↦ rw e r
+      | inl e ↦ rw e (good_more image h _ r (arrival_good image h mask ports i r.sound (eqb-true _ _ e)))
+      | inr e ↦ rw e r
     ]
 
 pub turned_good : (image : ImageView) (h : History) → IsImage image → IsGoodRun image h → IsGoodRun image (turned image h)
 turned_good image h i r =
     elim (cases_Bool (running_at image h == nobody)) [
-      inl e ↦ rw e r
-    | inr e ↦ rw e (good_more image h _ r (moment_good image h i r.sound (eqb-false _ _ e) _ refl))
+      | inl e ↦ rw e r
+      | inr e ↦ rw e (good_more image h _ r (moment_good image h i r.sound (eqb-false _ _ e) _ refl))
     ]
 
 pub turns_good : (image : ImageView) (n : ℕ) (h : History) → IsImage image → IsGoodRun image h → IsGoodRun image (turns image n h)
@@ -259,7 +259,7 @@ pub played_good : (image : ImageView) (script : List Slice) (h : History) → Is
 played_good image [] h i r = r
 played_good image (s ∷ ss) h i r =
     played_good image ss (sliced image h s) i
-        (turns_good image s.length (arrives image s.mask s.ports h) i (arrives_good image h s.mask s.ports i r))
+    (turns_good image s.length (arrives image s.mask s.ports h) i (arrives_good image h s.mask s.ports i r))
 
 pub boot_good : (image : ImageView) → IsImage image → IsGoodRun image []
 boot_good image i = record { run = Boots; sound = boot_sound image i }

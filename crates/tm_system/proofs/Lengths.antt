@@ -16,16 +16,16 @@ epochs_few task [] = omega arith
 epochs_few task (m ∷ h) =
     let few = epochs_few task h in
     elim (cases_Bool (is_start task m.deed (backs task h))) [
-      inl e ↦ rw e (omega arith)
-    | inr e ↦ rw e (omega arith)
+      | inl e ↦ rw e (omega arith)
+      | inr e ↦ rw e (omega arith)
     ]
 
 -- an instruction is one moment at most
 pub turned_short : (image : ImageView) (h : History) → length (turned image h) ≤ length h + 1
 turned_short image h =
     elim (cases_Bool (running_at image h == nobody)) [
-      inl e ↦ rw e (omega arith)
-    | inr e ↦ rw e (omega arith)
+      | inl e ↦ rw e (omega arith)
+      | inr e ↦ rw e (omega arith)
     ]
 
 pub turns_short : (image : ImageView) (n : ℕ) (h : History) → length (turns image n h) ≤ length h + n
@@ -37,8 +37,8 @@ turns_short image (suc n) h = omega (arith, turned_short image (turns image n h)
 pub arrives_short : (image : ImageView) (mask : ℕ) (ports : List ℕ) (h : History) → length (arrives image mask ports h) ≤ length h + 1
 arrives_short image mask ports h =
     elim (cases_Bool ((now image h).kernel.ended == 0)) [
-      inl e ↦ rw e (omega arith)
-    | inr e ↦ rw e (omega arith)
+      | inl e ↦ rw e (omega arith)
+      | inr e ↦ rw e (omega arith)
     ]
 
 pub sliced_short : (image : ImageView) (s : Slice) (h : History) → s.length ≤ 1048576 → length (sliced image h s) ≤ length h + 1048577

@@ -38,8 +38,8 @@ controls_few image [] = omega arith
 controls_few image (m ∷ h) =
     let few = controls_few image h in
     elim (cases_Bool (is_switch image m h)) [
-      inl e ↦ rw e (rw length-append (omega arith))
-    | inr e ↦ rw e (omega arith)
+      | inl e ↦ rw e (rw length-append (omega arith))
+      | inr e ↦ rw e (omega arith)
     ]
 
 pub blocks_stay : (image : ImageView) (m : Moment) (h : History) → is_switch image m h ≡ false → blocks image 0 (m ∷ h) ≡ blocks image 0 h

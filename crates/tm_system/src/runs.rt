@@ -7,5 +7,4 @@ ghost use Rattle.tm_system.specs.Laws.{ScriptsAreRuns, ScriptsAreSound};
 pub fn scripts_are_runs()
     ensures runs { ScriptsAreRuns }
     ensures sound { ScriptsAreSound }
-{
-}
+{}
