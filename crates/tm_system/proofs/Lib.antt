@@ -3,6 +3,7 @@ pub mod Moments
 pub mod Turning
 pub mod Calling
 pub mod Stepping
+pub mod Adding
 pub mod Booting
 pub mod Following
 pub mod Lengths

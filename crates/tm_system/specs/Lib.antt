@@ -1,5 +1,6 @@
 pub mod History
 pub mod Run
+pub mod Turns
 pub mod Marks
 pub mod Controls
 pub mod Telling

@@ -1,10 +1,16 @@
-//! Runs of small images, held to what they must leave. The function does nothing: its clauses are
-//! the theorems.
+//! Laws of runs, and runs of small images, held to what they must leave. Each function here does
+//! nothing: its clauses are the theorems.
 
 ghost use Rattle.tm_system.specs.Examples.{EndingLeaves, PreemptingLeaves};
+ghost use Rattle.tm_system.specs.Turns.{TurnsAdd};
 
 /// The control entries of two small images, as worked by hand.
 pub fn examples()
     ensures ending { EndingLeaves }
     ensures preempting { PreemptingLeaves }
+{}
+
+/// So many turns, and then some more, are as many as their sum.
+pub fn turns_add_up()
+    ensures { TurnsAdd }
 {}

@@ -1,7 +1,7 @@
 //! What an address of a task reaches, and the bytes of words.
 
 ghost use Rattle.std.specs.Prelude.{◌≡◌, ◌+◌, ◌-◌, ◌*◌, ◌/◌, ◌%◌, ◌^◌, ◌<◌, ◌≤◌, length, slice_index, nat_lt};
-ghost use Rattle.tm_task.specs.Memory.{in_text, in_data, part_of, spliced, IsSize};
+ghost use Rattle.tm_task.specs.Memory.{data_start, in_text, in_data, part_of, spliced, IsSize};
 
 use tm_marker::Items;
 
@@ -27,8 +27,8 @@ pub(crate) fn is_in_data(words: &Items<u32>, address: u32) -> bool
 /// The index of the data word that holds the byte at an address.
 #[inline]
 pub(crate) fn data_index(address: u32) -> usize
-    requires { 0x10000000 ≤ address }
-    ensures { result ≡ (address - 0x10000000) / 4 }
+    requires { data_start ≤ address }
+    ensures { result ≡ (address - data_start) / 4 }
 {
     ((address - DATA_START) / 4) as usize
 }

@@ -14,7 +14,7 @@ use std::marker::Model;
 use tm_marker::{Body, DataEntry, EPOCH_LENGTH, Items, Marker};
 
 /// One task. Its text is handed to each step, and is at address 0; its data starts at
-/// [`DATA_START`]. A task's marker rises with each instruction that it executes.
+/// [`crate::DATA_START`]. A task's marker rises with each instruction that it executes.
 #[derive(Debug, Drop)]
 pub struct Task {
     entry: u32,
@@ -34,7 +34,8 @@ impl Model for Task {
 }
 
 impl Task {
-    /// A task at boot, that enters its text at the address `entry` and has these data words.
+    /// A task at boot that enters its text at the address `entry`, and has these 1 to 16,384 data
+    /// words.
     pub fn new(alloc: Global, entry: u32, words: &[u32]) -> Result<Task, AllocError>
         requires aligned { entry % 4 ≡ 0 }
         requires within { entry < 65536 }
@@ -57,7 +58,8 @@ impl Task {
         })
     }
 
-    /// Executes one instruction of the text.
+    /// Executes one instruction of the text, which has 1 to 16,384 words. After a call or a fault
+    /// the task is as before. The call takes no memory.
     #[inline]
     #[tactic(auto, using(crate::proofs::Following::goes_on, crate::proofs::Following::calls_inside))]
     pub fn step(&mut self, text: &[u32]) -> Stepped
@@ -122,11 +124,13 @@ impl Task {
         &self.body
     }
 
-    /// Resumes the task, which stands at a call, with what the service answered.
+    /// Resumes the task, which stands at a call, with what the service answered. An answer of
+    /// success to TerminateTask or ChainTask starts the task anew, with its data as it is.
     pub fn answer(&mut self, entry: &DataEntry)
         requires inside { self.old.standing.body.pc < 65536 }
         requires epoch { self.old.standing.epoch < 2 ^ 53 }
-        ensures answered { self.new ≡ record self.old { standing = answered self.old.entry self.old.standing entry.now } }
+        ensures answered { self.new
+            ≡ record self.old { standing = answered self.old.entry self.old.standing entry.now } }
         ensures raised { IsBefore (marker_of self.old.standing) (marker_of self.new.standing) }
         ensures task { IsTask self.new }
     {
