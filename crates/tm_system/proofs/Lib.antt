@@ -5,3 +5,6 @@ pub mod Calling
 pub mod Stepping
 pub mod Adding
 pub mod Booting
+pub mod Following
+pub mod Lengths
+pub mod Texts

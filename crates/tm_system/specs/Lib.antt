@@ -8,3 +8,4 @@ pub mod Follows
 pub mod Machine
 pub mod Parts
 pub mod Examples
+pub mod Laws

@@ -109,7 +109,7 @@ abbrev pub last_at : ImageView → ℕ → History → ℕ → Last
 last_at image p h task = record {
   state = number_of (slice_get (now image h).kernel.states task);
   view = view_at image h task (printed image p task h);
-  outputs = if running_at image h == task then pending image task h else [];
+  outputs = if task == running_at image h then pending image task h else [];
 }
 
 -- what the text from point p tells of a history

@@ -7,9 +7,11 @@
 
 mod laws;
 mod machine;
+mod runs;
 
 pub use laws::{examples, turns_add_up};
 pub use machine::{Machine, Told};
+pub use runs::scripts_are_runs;
 
 #[cfg(test)]
 mod tests;

@@ -137,6 +137,14 @@ impl Machine {
         self.kernel.state(number)
     }
 
+    /// How many tasks there are, 1 to 16.
+    pub fn tasks(&self) -> u8
+        ensures number { result ≡ length self.now.tasks }
+        ensures few { result ≤ 16 }
+    {
+        self.tasks.len() as u8
+    }
+
     /// The running task, or [`NOBODY`].
     #[inline]
     pub fn running(&self) -> u8

@@ -129,7 +129,8 @@ impl Task {
     pub fn answer(&mut self, entry: &DataEntry)
         requires inside { self.old.standing.body.pc < 65536 }
         requires epoch { self.old.standing.epoch < 2 ^ 53 }
-        ensures answered { self.new ≡ record self.old { standing = answered self.old.entry self.old.standing entry.now } }
+        ensures answered { self.new
+            ≡ record self.old { standing = answered self.old.entry self.old.standing entry.now } }
         ensures raised { IsBefore (marker_of self.old.standing) (marker_of self.new.standing) }
         ensures task { IsTask self.new }
     {

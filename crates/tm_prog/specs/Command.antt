@@ -1,0 +1,23 @@
+-- What the words of a call ask for.
+use Rattle.std.specs.Prelude.{ℕ, Bool, false, not, ◌&&◌, ◌==◌, if◌then◌else◌, List, [], ◌∷◌, map, codes, bytes_eq, String, string_bytes, Option, Some, None}
+use Rattle.std.specs.declared.alloc.Global.{Global}
+
+-- what the program can be asked for
+pub data Command : Type 0 where
+  -- the text of the whole run of a plan on an image, each in the file of this name
+  Trace : (image : List ℕ) → (plan : List ℕ) → Command
+
+-- the bytes of each word
+abbrev pub texts : List (String Global) → List (List ℕ)
+texts words = map string_bytes words
+
+-- a name is not empty, and does not begin with a dash
+abbrev pub is_name : List ℕ → Bool
+is_name [] = false
+is_name (first ∷ rest) = not (first == 45)
+
+-- the command that the words are a form of: `trace IMAGE PLAN`
+abbrev pub command_of : List (List ℕ) → Option Command
+command_of (word ∷ image ∷ plan ∷ []) =
+    if bytes_eq word (codes "trace") && is_name image && is_name plan then Some (Trace image plan) else None
+command_of _ = None

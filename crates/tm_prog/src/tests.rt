@@ -1,0 +1,88 @@
+//! Whole calls over a shelf and a sink in memory.
+
+use super::*;
+use std::alloc::AllocError;
+use std::test::Fail;
+use tm_io::{MemShelf, MemSink};
+
+const IMAGE: &[u8] = b"tmi 1\ntask 0 basic 1 auto 0 1\ntext 0 00200893 00000073\n";
+
+const PLAN: &[u8] = b"tmplan 1\nslice 2 0\n";
+
+const TEXT: &[u8] = b"start 0 -\n\
+task 0 0.0.00000000\n\
+regs x2=10000004\n\
+switch 1 - idle 0\n\
+switch 2 0 ends -\n\
+at 1.0.00000000\n\
+regs x2=10000004\n\
+end - on\n\
+task 0 suspended 1.0.00000000\n\
+regs x2=10000004\n";
+
+/// A shelf with the image `i`, the plan `p`, and no other file.
+fn shelf(alloc: Global) -> Result<MemShelf, AllocError> {
+    let mut shelf = MemShelf::new(alloc, &[])?;
+    shelf.add("i", IMAGE)?;
+    shelf.add("p", PLAN)?;
+    Ok(shelf)
+}
+
+/// An empty sink with room for the text, whose writes of these numbers fail.
+fn sink(alloc: Global, fail: &[u64]) -> Result<MemSink, AllocError> {
+    let mut sink = MemSink::new(alloc, 7, fail)?;
+    sink.room(TEXT.len())?;
+    Ok(sink)
+}
+
+/// What the words, parted by blanks, answer.
+fn answered(alloc: Global, words: &str, out: &mut MemSink) -> Result<Status, AllocError> {
+    let mut list = Vec::new(alloc);
+    for word in words.split(' ') {
+        list.push(String::from_str(alloc, word)?)?;
+    }
+    Ok(tm(alloc, list.as_slice(), &mut shelf(alloc)?, out))
+}
+
+#[test]
+fn the_smallest_run_is_printed(rt: HostRuntime) -> Result<(), Fail> {
+    let mut out = sink(rt.alloc(), &[])?;
+    assert_eq!(rt; answered(rt.alloc(), "trace i p", &mut out)?, Status::Ok);
+    assert_eq!(rt; out.bytes(), TEXT);
+    Ok(())
+}
+
+#[test]
+fn a_failing_write_leaves_a_beginning(rt: HostRuntime) -> Result<(), Fail> {
+    let mut out = sink(rt.alloc(), &[3])?;
+    assert_eq!(rt;
+        answered(rt.alloc(), "trace i p", &mut out)?,
+        Status::WriteFault
+    );
+    assert_eq!(rt; out.bytes(), b"start 0 -\ntask".as_slice());
+    Ok(())
+}
+
+#[test]
+fn refusals_print_nothing(rt: HostRuntime) -> Result<(), Fail> {
+    let mut out = sink(rt.alloc(), &[])?;
+    assert_eq!(rt; answered(rt.alloc(), "trace i", &mut out)?, Status::Words);
+    assert_eq!(rt;
+        answered(rt.alloc(), "trace i -p", &mut out)?,
+        Status::Words
+    );
+    assert_eq!(rt;
+        answered(rt.alloc(), "trace i none", &mut out)?,
+        Status::ReadFault
+    );
+    assert_eq!(rt;
+        answered(rt.alloc(), "trace p none", &mut out)?,
+        Status::NotBuilt(1)
+    );
+    assert_eq!(rt;
+        answered(rt.alloc(), "trace i i", &mut out)?,
+        Status::NotBuilt(2)
+    );
+    assert_eq!(rt; out.bytes(), b"".as_slice());
+    Ok(())
+}
