@@ -42,7 +42,12 @@ fn run(rt: &HostRuntime) -> Status {
             Err(_) => Status::WriteFault,
         };
     }
-    tm(rt.alloc(), &words, &mut FileShelf::new(rt), &mut OutSink::new(rt))
+    tm(
+        rt.alloc(),
+        &words,
+        &mut FileShelf::new(rt),
+        &mut OutSink::new(rt),
+    )
 }
 
 /// Prints the status line; where it can't be made or printed, nothing is.

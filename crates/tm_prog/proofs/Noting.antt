@@ -1,29 +1,23 @@
 -- A teller that stands where a history does goes on with the next moment.
-use Rattle.std.proofs.Common.{◌≡◌, ◌≢◌, ℕ, zero, suc, ◌+◌, ◌<◌, ◌≤◌, ◌⊎◌, Bool, true, false, ◌==◌, if◌then◌else◌, List, [], ◌∷◌, ◌++◌, length, refl, ap, sym, ◌∙◌, subst, arith, add-one, length-append, Option, Some, None, slice_get, slice_set, length-set, IfSome, unwrap_or, inl, inr}
-use Rattle.std.specs.Prelude.{option_to_list, flat_map}
-use Rattle.std.proofs.lemmas.Bool.{cases_Bool, eqb-true, eqb-false, eq-eqb, ne_eqb}
-use Rattle.std.proofs.lemmas.List.{append-nil}
-use Rattle.std.proofs.lemmas.Option.{slice_get_within}
+use Rattle.std.proofs.Common.{◌≡◌, ◌≢◌, ℕ, ◌+◌, ◌<◌, ◌≤◌, Bool, true, false, ◌==◌, if◌then◌else◌, List, [], ◌∷◌, ◌++◌, length, refl, ap, sym, ◌∙◌, subst, arith, length-append, Option, Some, None, slice_get, length-set, unwrap_or, inl, inr}
+use Rattle.std.specs.Prelude.{option_to_list}
+use Rattle.std.proofs.lemmas.Bool.{cases_Bool, eqb-false, eq-eqb, ne_eqb}
 use Rattle.tm_marker.specs.declared.body.Body.{Body}
 use Rattle.tm_marker.specs.declared.entries.OutputEntry.{OutputEntry}
 use Rattle.tm_marker.specs.declared.entries.Switch.{Switch}
 use Rattle.tm_task.specs.Exec.{Exec, Faults, Calls, Goes, exec}
-use Rattle.tm_task.specs.Standing.{TaskView}
-use Rattle.tm_kernel.specs.State.{KernelState, IsKernel, nobody}
+use Rattle.tm_kernel.specs.State.{nobody}
 use Rattle.tm_kernel.proofs.Keeping.{slice_get_set_same, slice_get_set_other}
-use Rattle.tm_spelling.specs.Story.{View, Leave, Block, block_text, start_text}
+use Rattle.tm_spelling.specs.Story.{View, Leave, Block, block_text}
 use Rattle.tm_image.specs.Image.{ImageView, entry_of, text_of}
-use Rattle.tm_system.specs.declared.machine.Told.{Told}
-use Rattle.tm_system.specs.History.{Deed, Arrives, Steps, Answers, Faulted, Whole, Moment, History}
-use Rattle.tm_system.specs.Run.{now, running_at, body_at, arrival, arrives, moment_by, next_moment, turned, turns}
-use Rattle.tm_system.specs.Marks.{marker_at}
+use Rattle.tm_system.specs.History.{Whole, Moment, History}
+use Rattle.tm_system.specs.Run.{now, running_at, body_at, moment_by, next_moment}
 use Rattle.tm_system.specs.Controls.{is_switch, switch_at, controls, output_of}
-use Rattle.tm_system.specs.Telling.{below, start_at, made, pending, printed, view_at, leave_at, block_at, blocks, cause_of}
-use Rattle.tm_system.specs.Machine.{MachineView, IsAt, IsMachine, task_at, told_of, told_nothing}
+use Rattle.tm_system.specs.Telling.{made, pending, printed, view_at, leave_at, cause_of}
+use Rattle.tm_system.specs.Machine.{MachineView, IsAt, told_of}
 use Rattle.tm_system.specs.Parts.{IsTaskOrNobody}
 use Rattle.tm_system.proofs.Texts.{controls_more}
-use Rattle.tm_prog.specs.Teller.{TellerView, Tells, view_of_task, view_by, view_in, words_in, printed_by, leave_in, block_in, printed_after, TellsSwitch, waiting, TellsSwitchIn, Notes}
-use Rattle.tm_prog.specs.Tracing.{IsTraced}
+use Rattle.tm_prog.specs.Teller.{TellerView, Tells, view_by, view_in, words_in, printed_by, leave_in, printed_after, TellsSwitch, waiting, TellsSwitchIn, Notes}
 use Rattle.tm_prog.proofs.TellerSteps.{TellsEntry, quiet_told, entry_told}
 
 -- the outputs of a moment are the running task's

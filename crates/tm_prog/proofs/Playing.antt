@@ -1,12 +1,12 @@
 -- How the slices and instructions of a script follow one another.
-use Rattle.std.proofs.Common.{◌≡◌, ◌≢◌, ℕ, zero, suc, ◌+◌, ◌*◌, ◌^◌, ◌<◌, ◌≤◌, List, [], ◌∷◌, ◌++◌, length, take, fold, get_or, refl, ap, sym, ◌∙◌, subst, arith, add-one, add-zero, All}
+use Rattle.std.proofs.Common.{◌≡◌, ◌≢◌, ℕ, zero, suc, ◌+◌, ◌<◌, List, [], ◌∷◌, ◌++◌, length, take, get_or, refl, ap, ◌∙◌, arith, add-one, add-zero}
 use Rattle.std.proofs.Math.Seq.{take-suc}
 use Rattle.std.proofs.lemmas.Bool.{ne_eqb, eq-eqb}
 use Rattle.tm_marker.specs.declared.entries.Slice.{Slice}
 use Rattle.tm_kernel.specs.State.{nobody}
 use Rattle.tm_image.specs.Image.{ImageView}
 use Rattle.tm_system.specs.History.{History}
-use Rattle.tm_system.specs.Run.{running_at, arrives, next_moment, turned, turns, sliced, played, run}
+use Rattle.tm_system.specs.Run.{running_at, next_moment, turned, turns, sliced, played, run}
 
 -- a task that runs makes the next moment
 pub turned_on : (image : ImageView) (h : History) → running_at image h ≢ nobody → turned image h ≡ next_moment image h ∷ h

@@ -1,7 +1,7 @@
 -- Where a machine and a teller stand at the start, and what the text is at the end.
-use Rattle.std.proofs.Common.{◌≡◌, ◌≢◌, ℕ, zero, suc, ◌+◌, ◌<◌, ◌≤◌, Bool, true, false, ◌==◌, if◌then◌else◌, List, [], ◌∷◌, ◌++◌, length, refl, ap, sym, ◌∙◌, subst, arith, add-one, Option, Some, None, slice_get, unwrap_or, inl, inr}
+use Rattle.std.proofs.Common.{◌≡◌, ◌≢◌, ℕ, zero, suc, ◌<◌, ◌≤◌, ◌==◌, if◌then◌else◌, List, [], ◌∷◌, ◌++◌, length, refl, ap, sym, ◌∙◌, arith, Some, slice_get, unwrap_or, inl, inr}
 use Rattle.std.specs.Prelude.{flat_map}
-use Rattle.std.proofs.lemmas.Bool.{cases_Bool, eqb-true, eqb-false, eq-eqb, ne_eqb}
+use Rattle.std.proofs.lemmas.Bool.{cases_Bool, eqb-true, eqb-false, ne_eqb}
 use Rattle.std.proofs.lemmas.List.{append-nil}
 use Rattle.tm_marker.specs.declared.entries.OutputEntry.{OutputEntry}
 use Rattle.tm_kernel.specs.State.{nobody}
@@ -10,9 +10,9 @@ use Rattle.tm_image.specs.Image.{ImageView}
 use Rattle.tm_system.specs.History.{History}
 use Rattle.tm_system.specs.Run.{now, running_at, body_at}
 use Rattle.tm_system.specs.Controls.{controls}
-use Rattle.tm_system.specs.Telling.{below, number_of, start_at, last_at, view_at, printed, pending, blocks, story}
-use Rattle.tm_system.specs.Machine.{MachineView, IsAt, task_at}
-use Rattle.tm_prog.specs.Teller.{TellerView, Tells, TellsStart, start_by, start_in, view_by, view_in, words_in, printed_by, state_in, last_in, text_so_far}
+use Rattle.tm_system.specs.Telling.{below, number_of, start_at, last_at, printed, pending, blocks, story}
+use Rattle.tm_system.specs.Machine.{MachineView, IsAt}
+use Rattle.tm_prog.specs.Teller.{TellerView, Tells, TellsStart, start_by, start_in, view_in, words_in, last_in}
 use Rattle.tm_prog.specs.Tracing.{IsTraced}
 use Rattle.tm_prog.proofs.Endings.{length-below}
 use Rattle.tm_prog.proofs.Noting.{view_at_is, words_at_is}

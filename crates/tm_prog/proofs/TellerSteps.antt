@@ -1,17 +1,15 @@
 -- How the teller goes on by one moment.
-use Rattle.std.proofs.Common.{◌≡◌, ◌≢◌, ℕ, zero, suc, ◌+◌, ◌<◌, ◌≤◌, ◌⊎◌, Bool, true, false, not, ◌&&◌, ◌||◌, ◌==◌, if◌then◌else◌, List, [], ◌∷◌, ◌++◌, length, refl, ap, sym, ◌∙◌, subst, arith, length-append, append_assoc, Option, Some, None, is_some, slice_get, slice_set, length-set, flat_map, inl, inr}
+use Rattle.std.proofs.Common.{◌≡◌, ◌≢◌, ℕ, ◌+◌, ◌<◌, Bool, true, false, not, ◌||◌, ◌==◌, List, [], ◌∷◌, ◌++◌, length, refl, ap, sym, ◌∙◌, subst, arith, length-append, append_assoc, Some, is_some, slice_get, flat_map, inl, inr}
 use Rattle.std.proofs.lemmas.List.{append-nil}
-use Rattle.std.proofs.lemmas.Bool.{cases_Bool, eqb-true, eqb-false, eq-eqb, ne_eqb}
-use Rattle.tm_marker.specs.declared.entries.OutputEntry.{OutputEntry}
+use Rattle.std.proofs.lemmas.Bool.{cases_Bool, eqb-true, eqb-false, eq-eqb}
 use Rattle.tm_kernel.specs.State.{nobody}
-use Rattle.tm_kernel.proofs.Keeping.{slice_get_set_same, slice_get_set_other}
-use Rattle.tm_spelling.specs.Story.{Block, Story, start_text, block_text, end_text, spelled}
+use Rattle.tm_spelling.specs.Story.{Block, start_text, block_text, end_text, spelled}
 use Rattle.tm_image.specs.Image.{ImageView}
 use Rattle.tm_system.specs.History.{Moment, History}
 use Rattle.tm_system.specs.Run.{now, running_at, body_at}
 use Rattle.tm_system.specs.Controls.{is_switch, switch_at, controls}
-use Rattle.tm_system.specs.Telling.{below, start_at, last_at, story, is_stop, printed, made, pending, blocks, block_at}
-use Rattle.tm_prog.specs.Teller.{TellerView, text_so_far, Tells}
+use Rattle.tm_system.specs.Telling.{below, start_at, last_at, story, printed, made, pending, blocks, block_at}
+use Rattle.tm_prog.specs.Teller.{TellerView, Tells}
 use Rattle.tm_system.proofs.Texts.{upto_boot, controls_stay, controls_more, blocks_stay, blocks_more, printed_stop, printed_stay, pending_more, pending_none}
 
 -- where a moment makes no control entry, the running task runs on

@@ -1,10 +1,9 @@
 -- One moment keeps machine and teller where the history is.
-use Rattle.std.proofs.Common.{◌≡◌, ◌≢◌, ℕ, ◌+◌, ◌^◌, ◌<◌, ◌≤◌, ◌⊎◌, Bool, true, false, ◌==◌, if◌then◌else◌, List, [], ◌∷◌, ◌++◌, length, refl, ap, sym, ◌∙◌, subst, arith, Option, Some, None, slice_get, IfSome, inl, inr, Result, Ok, Err, OnOk, All, take, ◌*◌, length-take}
-use Rattle.std.proofs.lemmas.Bool.{cases_Bool, eqb-true, eqb-false, ne_eqb}
+use Rattle.std.proofs.Common.{◌≡◌, ◌≢◌, ℕ, ◌+◌, ◌^◌, ◌<◌, ◌≤◌, Bool, true, false, ◌==◌, if◌then◌else◌, List, [], ◌∷◌, length, refl, ap, sym, ◌∙◌, subst, arith, slice_get, IfSome, inl, inr, Result, Ok, Err, OnOk, All, take, ◌*◌, length-take}
+use Rattle.std.proofs.lemmas.Bool.{cases_Bool}
 use Rattle.std.proofs.lemmas.List.{append-nil}
 use Rattle.std.proofs.lemmas.List.Elements.{All-take}
 use Rattle.std.proofs.lemmas.Option.{slice_get_within}
-use Rattle.tm_marker.specs.declared.entries.OutputEntry.{OutputEntry}
 use Rattle.tm_marker.specs.declared.entries.Slice.{Slice}
 use Rattle.tm_kernel.specs.State.{nobody}
 use Rattle.tm_image.specs.Image.{ImageView}
@@ -12,15 +11,14 @@ use Rattle.tm_image.specs.Plan.{IsSlice}
 use Rattle.tm_system.specs.declared.machine.Told.{Told}
 use Rattle.tm_system.specs.History.{Moment, History}
 use Rattle.tm_system.specs.Run.{now, running_at, arrival, arrives, next_moment, turned, turns, run}
-use Rattle.tm_system.specs.Controls.{is_switch, switch_at, controls}
-use Rattle.tm_system.specs.Marks.{epochs}
+use Rattle.tm_system.specs.Controls.{is_switch}
 use Rattle.tm_system.specs.Machine.{MachineView, IsAt, IsMachine, told_of, told_nothing, arrival_told}
 use Rattle.tm_system.specs.Parts.{IsTaskOrNobody}
 use Rattle.tm_system.proofs.Texts.{controls_few}
 use Rattle.tm_system.proofs.Lengths.{epochs_few, turns_short, arrives_short, played_short}
-use Rattle.tm_prog.specs.Teller.{TellerView, Tells, waiting, Notes}
+use Rattle.tm_prog.specs.Teller.{TellerView, Tells, Notes}
 use Rattle.tm_prog.specs.Tracing.{IsTraced, IsYoung}
-use Rattle.tm_prog.proofs.Noting.{IsOwn, noted, next_own, is_there}
+use Rattle.tm_prog.proofs.Noting.{noted, next_own, is_there}
 use Rattle.tm_prog.proofs.Playing.{turned_on}
 
 -- an image has at most 16 tasks where a machine stands on it

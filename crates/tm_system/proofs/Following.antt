@@ -1,28 +1,26 @@
 -- Each moment of a script's run follows the moments before it, and is sound.
-use Rattle.std.proofs.Common.{◌≡◌, ◌≢◌, ℕ, zero, suc, ◌<◌, ◌⊎◌, Bool, true, false, ◌==◌, List, [], ◌∷◌, length, refl, ap, sym, ◌∙◌, subst, inl, inr, arith, length-set, Option, Some, None, slice_get, slice_set, unwrap_or, fold, map}
+use Rattle.std.proofs.Common.{◌≡◌, ◌≢◌, ℕ, zero, suc, ◌<◌, ◌⊎◌, Bool, true, ◌==◌, List, [], ◌∷◌, length, refl, ap, sym, ◌∙◌, subst, inl, inr, length-set, Some, slice_get, slice_set, unwrap_or}
 use Rattle.std.proofs.lemmas.Bool.{cases_Bool, eqb-true, eqb-false}
 use Rattle.std.proofs.lemmas.List.{length-map}
 use Rattle.std.proofs.lemmas.Option.{slice_get_within}
 use Rattle.tm_marker.specs.declared.body.Body.{Body}
 use Rattle.tm_marker.specs.declared.entries.Slice.{Slice}
 use Rattle.tm_marker.specs.declared.entries.Kind.{Kind}
-use Rattle.tm_marker.specs.declared.entries.Kind.TheVariants.{Ends}
 use Rattle.tm_task.specs.declared.outcome.Cause.{Cause}
 use Rattle.tm_task.specs.Exec.{Exec, Faults, Calls, Goes, exec}
-use Rattle.tm_task.specs.Standing.{reply, args_of}
+use Rattle.tm_task.specs.Standing.{args_of}
 use Rattle.tm_kernel.specs.declared.kernel.Need.{Need}
 use Rattle.tm_kernel.specs.declared.kernel.Need.TheVariants.{Goes as Continues, Leaves}
-use Rattle.tm_kernel.specs.State.{KernelState, IsKernel, IsRunning, nobody, booted}
+use Rattle.tm_kernel.specs.State.{KernelState, IsKernel, IsRunning, nobody}
 use Rattle.tm_kernel.specs.Service.{Answered, answer}
-use Rattle.tm_kernel.specs.Schedule.{rescheduled, arrived, stopped}
-use Rattle.tm_kernel.specs.Laws.{SameRest}
+use Rattle.tm_kernel.specs.Schedule.{rescheduled, arrived}
 use Rattle.tm_kernel.proofs.Keeping.{slice_get_set_same, booted_keeps, arrived_keeps, stopped_keeps}
 use Rattle.tm_kernel.proofs.Rescheduling.{rescheduling_keeps, runs_a_task, rescheduling_same_rest, arrival_latches, arrival_goes_on}
-use Rattle.tm_kernel.proofs.Answering.{answer_by, call_keeps, call_same_rest, call_goes_on, call_leaves}
+use Rattle.tm_kernel.proofs.Answering.{call_keeps, call_same_rest, call_goes_on, call_leaves}
 use Rattle.tm_image.specs.Image.{ImageView, IsImage, entry_of, text_of}
-use Rattle.tm_system.specs.History.{Deed, Arrives, Steps, Answers, Faulted, Whole, Moment, History}
-use Rattle.tm_system.specs.Run.{boot, now, running_at, body_at, no_body, arrival, left_by, call_moment, moment_by, next_moment, arrives, turned, turns, sliced, played, run}
-use Rattle.tm_system.specs.Follows.{IsArrival, IsTurnOf, IsStep, IsCall, IsFault, CanRunNext, ended_by, Follows, IsRun, Boots, GoesOn}
+use Rattle.tm_system.specs.History.{Moment, History}
+use Rattle.tm_system.specs.Run.{now, running_at, body_at, no_body, arrival, left_by, moment_by, arrives, turned, turns, sliced, played}
+use Rattle.tm_system.specs.Follows.{CanRunNext, ended_by, Follows, IsRun, Boots, GoesOn}
 use Rattle.tm_system.specs.Laws.{IsSoundAt, ScriptsAreRuns, ScriptsAreSound}
 
 -- a run whose last moment is sound

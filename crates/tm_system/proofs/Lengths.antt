@@ -1,11 +1,11 @@
 -- How long a run is, and that no epoch is later than that.
-use Rattle.std.proofs.Common.{◌≡◌, ℕ, zero, suc, ◌+◌, ◌*◌, ◌≤◌, Bool, true, false, ◌==◌, List, [], ◌∷◌, length, refl, arith, All, inl, inr}
+use Rattle.std.proofs.Common.{ℕ, zero, suc, ◌+◌, ◌*◌, ◌≤◌, ◌==◌, List, [], ◌∷◌, length, arith, All, inl, inr}
 use Rattle.std.proofs.lemmas.Bool.{cases_Bool}
 use Rattle.std.proofs.lemmas.List.Elements.{All-tail}
 use Rattle.tm_marker.specs.declared.entries.Slice.{Slice}
 use Rattle.tm_kernel.specs.State.{nobody}
 use Rattle.tm_image.specs.Image.{ImageView}
-use Rattle.tm_system.specs.History.{Moment, History}
+use Rattle.tm_system.specs.History.{History}
 use Rattle.tm_system.specs.Run.{now, running_at, arrives, turned, turns, sliced, played}
 use Rattle.tm_system.specs.Marks.{is_start, backs, epochs}
 

@@ -1,10 +1,9 @@
 -- What one more moment adds to the text from boot.
-use Rattle.std.proofs.Common.{◌≡◌, ◌≢◌, ℕ, zero, suc, ◌+◌, ◌≤◌, Bool, true, false, ◌&&◌, ◌||◌, ◌==◌, nat_lt, nat_le, List, [], ◌∷◌, ◌++◌, length, refl, ap, sym, ◌∙◌, arith, length-append, inl, inr}
+use Rattle.std.proofs.Common.{◌≡◌, ℕ, ◌≤◌, true, false, nat_lt, nat_le, [], ◌∷◌, ◌++◌, length, refl, arith, length-append, inl, inr}
 use Rattle.std.proofs.lemmas.Bool.{cases_Bool, le-ltb, le-leb}
-use Rattle.tm_marker.specs.declared.entries.OutputEntry.{OutputEntry}
 use Rattle.tm_image.specs.Image.{ImageView}
 use Rattle.tm_system.specs.History.{Moment, History}
-use Rattle.tm_system.specs.Run.{running_at, body_at}
+use Rattle.tm_system.specs.Run.{body_at}
 use Rattle.tm_system.specs.Controls.{is_switch, switch_at, controls}
 use Rattle.tm_system.specs.Telling.{upto, is_stop, printed, made, pending, blocks, block_at}
 

@@ -1,5 +1,5 @@
 -- What holds of every run of a script.
-use Rattle.std.specs.Prelude.{◌≡◌, ◌≢◌, ℕ, List, length}
+use Rattle.std.specs.Prelude.{◌≡◌, ◌≢◌, List, length}
 use Rattle.tm_marker.specs.declared.entries.Slice.{Slice}
 use Rattle.tm_kernel.specs.State.{IsKernel, nobody}
 use Rattle.tm_image.specs.Image.{ImageView, IsImage}

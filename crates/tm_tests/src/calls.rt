@@ -14,7 +14,12 @@ pub fn words(alloc: Global, words: &[&str]) -> Result<Vec<String>, AllocError> {
 }
 
 /// A shelf with the image as `i` and the plan as `p`, whose calls with these numbers fail.
-pub fn shelf(alloc: Global, image: &[u8], plan: &[u8], fail: &[u64]) -> Result<MemShelf, AllocError> {
+pub fn shelf(
+    alloc: Global,
+    image: &[u8],
+    plan: &[u8],
+    fail: &[u64],
+) -> Result<MemShelf, AllocError> {
     let mut shelf = MemShelf::new(alloc, fail)?;
     shelf.add("i", image)?;
     shelf.add("p", plan)?;
@@ -22,6 +27,10 @@ pub fn shelf(alloc: Global, image: &[u8], plan: &[u8], fail: &[u64]) -> Result<M
 }
 
 /// `trace i p` on the shelf, into the sink.
-pub fn trace(alloc: Global, shelf: &mut MemShelf, sink: &mut MemSink) -> Result<Status, AllocError> {
+pub fn trace(
+    alloc: Global,
+    shelf: &mut MemShelf,
+    sink: &mut MemSink,
+) -> Result<Status, AllocError> {
     Ok(tm(alloc, &words(alloc, &["trace", "i", "p"])?, shelf, sink))
 }

@@ -1,4 +1,4 @@
-use Rattle.std.proofs.Common.{◌≡◌, ◌+◌, ◌-◌, ◌<◌, sym, ap, subst, ◌∙◌, arith}
+use Rattle.std.proofs.Common.{◌≡◌, ◌+◌, ◌-◌, sym, ap, subst, ◌∙◌, arith}
 use Rattle.tm_kernel.specs.State.{nobody}
 use Rattle.tm_system.specs.History.{History}
 use Rattle.tm_system.specs.Run.{turns, running_at}

@@ -1,4 +1,4 @@
-use Rattle.std.proofs.Common.{◌≡◌, ◌≤◌, length, ap, sym, ◌∙◌, subst, arith, All, List, ℕ}
+use Rattle.std.proofs.Common.{◌≡◌, ◌≤◌, length, ap, sym, subst, arith, All, List, ℕ}
 use Rattle.tm_system.specs.Telling.{below}
 use Rattle.tm_prog.specs.Teller.{state_in}
 use Rattle.tm_prog.proofs.Endings.{length-below, states_named}
