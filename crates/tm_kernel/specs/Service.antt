@@ -7,7 +7,7 @@ use Rattle.tm_kernel.specs.declared.kernel.Need.{Need}
 use Rattle.tm_kernel.specs.declared.kernel.Need.TheVariants.{Goes, Leaves}
 use Rattle.tm_kernel.specs.declared.kernel.TaskState.{TaskState}
 use Rattle.tm_kernel.specs.declared.kernel.TaskState.TheVariants.{Suspended, Ready, Running, Waiting}
-use Rattle.tm_kernel.specs.declared.status.TheConstants.{E_OK, E_OS_ID, E_OS_LIMIT, E_OS_NOFUNC}
+use Rattle.tm_kernel.specs.declared.status.TheConstants.{E_OK, E_OS_ACCESS, E_OS_ID, E_OS_LIMIT, E_OS_NOFUNC}
 use Rattle.tm_kernel.specs.State.{KernelState, nobody}
 
 -- the kernel after a call, the caller's data entry, the output where one is made, and what becomes
@@ -45,18 +45,38 @@ activated k task =
 abbrev pub activate_task : KernelState → ℕ → Answered
 activate_task k task = goes_on (activated k task) 1 (activation (slice_get k.states task))
 
--- 2, TerminateTask(): the caller is suspended and leaves the processor
+-- the kernel after the running task's end: the task is suspended, and nobody runs
+abbrev pub suspended : KernelState → ℕ → KernelState
+suspended k caller = record k { states = slice_set k.states caller Suspended; running = nobody }
+
+-- a call that ends the caller
+abbrev pub ends : KernelState → ℕ → Answered
+ends k service = record { kernel = k; entry = entry_of service E_OK; output = None; need = Leaves Ends }
+
+-- 2, TerminateTask()
 abbrev pub terminate_task : KernelState → ℕ → Answered
-terminate_task k caller = record {
-  kernel = record k { states = slice_set k.states caller Suspended; running = nobody };
-  entry = entry_of 2 E_OK;
-  output = None;
-  need = Leaves Ends;
-}
+terminate_task k caller = ends (suspended k caller) 2
+
+-- the status of ChainTask: the task is the caller, or it can be activated
+abbrev pub chaining : KernelState → ℕ → ℕ → ℕ
+chaining k caller task = if task == caller then E_OK else activation (slice_get k.states task)
+
+-- 3, ChainTask(task): the caller is suspended, then the task is activated
+abbrev pub chain_task : KernelState → ℕ → ℕ → Answered
+chain_task k caller task =
+    if chaining k caller task == E_OK
+    then ends (activated (suspended k caller) task) 3
+    else goes_on k 3 (chaining k caller task)
+
+-- 9, ClearEvent(mask): no task has events, so every caller is refused as a basic task
+abbrev pub clear_event : KernelState → Answered
+clear_event k = goes_on k 9 E_OS_ACCESS
 
 -- the answer to a call: every number without a service is refused
 abbrev pub answer : KernelState → ℕ → ℕ → List ℕ → Answered
 answer k caller service args =
     if service == 1 then activate_task k (slice_index args 0)
     else if service == 2 then terminate_task k caller
+    else if service == 3 then chain_task k caller (slice_index args 0)
+    else if service == 9 then clear_event k
     else goes_on k service E_OS_NOFUNC

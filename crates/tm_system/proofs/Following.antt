@@ -1,5 +1,5 @@
 -- Each moment of a script's run follows the moments before it, and is sound.
-use Rattle.std.proofs.Common.{◌≡◌, ◌≢◌, ℕ, zero, suc, ◌<◌, ◌⊎◌, Bool, true, ◌==◌, List, [], ◌∷◌, length, refl, ap, sym, ◌∙◌, subst, inl, inr, length-set, Some, slice_get, slice_set, unwrap_or}
+use Rattle.std.proofs.Common.{◌≡◌, ◌≢◌, ℕ, zero, suc, ◌<◌, ◌⊎◌, Bool, true, ◌==◌, List, [], ◌∷◌, length, refl, ap, sym, ◌∙◌, subst, inl, inr, length-set, Some, slice_get, slice_set, slice_index, unwrap_or}
 use Rattle.std.proofs.lemmas.Bool.{cases_Bool, eqb-true, eqb-false}
 use Rattle.std.proofs.lemmas.List.{length-map}
 use Rattle.std.proofs.lemmas.Option.{slice_get_within}
@@ -12,7 +12,8 @@ use Rattle.tm_task.specs.Standing.{args_of}
 use Rattle.tm_kernel.specs.declared.kernel.Need.{Need}
 use Rattle.tm_kernel.specs.declared.kernel.Need.TheVariants.{Goes as Continues, Leaves}
 use Rattle.tm_kernel.specs.State.{KernelState, IsKernel, IsRunning, nobody}
-use Rattle.tm_kernel.specs.Service.{Answered, answer}
+use Rattle.tm_kernel.specs.declared.status.TheConstants.{E_OK}
+use Rattle.tm_kernel.specs.Service.{Answered, answer, chain_task, chaining}
 use Rattle.tm_kernel.specs.Schedule.{rescheduled, arrived}
 use Rattle.tm_kernel.proofs.Keeping.{slice_get_set_same, booted_keeps, arrived_keeps, stopped_keeps}
 use Rattle.tm_kernel.proofs.Rescheduling.{rescheduling_keeps, runs_a_task, rescheduling_same_rest, arrival_latches, arrival_goes_on}
@@ -132,14 +133,24 @@ step_good image h next back i s somebody e =
       sound = record { spec = s.spec; kernel = s.kernel; bodies = length-set _ t next ∙ s.bodies; idle = s.idle };
     }
 
+chain_service : (k : KernelState) (caller task : ℕ) → (chain_task k caller task).entry.service ≡ 3
+chain_service k caller task =
+    elim (cases_Bool (chaining k caller task == E_OK)) [ inl e ↦ rw e refl | inr e ↦ rw e refl ]
+
 -- the entry of an answer has the called service's number
 answer_service : (k : KernelState) (task service : ℕ) (args : List ℕ) → (answer k task service args).entry.service ≡ service
 answer_service k task service args =
     elim (cases_Bool (service == 1)) [
-      | inl e ↦ rw e (sym (eqb-true service 1 e))
-      | inr e ↦ rw e (elim (cases_Bool (service == 2)) [
-        | inl f ↦ rw f (sym (eqb-true service 2 f))
-        | inr f ↦ rw f refl
+      inl e ↦ rw e (sym (eqb-true service 1 e))
+    | inr e ↦ rw e (elim (cases_Bool (service == 2)) [
+        inl f ↦ rw f (sym (eqb-true service 2 f))
+      | inr f ↦ rw f (elim (cases_Bool (service == 3)) [
+          inl g ↦ rw g (chain_service k task (slice_index args 0) ∙ sym (eqb-true service 3 g))
+        | inr g ↦ rw g (elim (cases_Bool (service == 9)) [
+            inl n ↦ rw n (sym (eqb-true service 9 n))
+          | inr n ↦ rw n refl
+          ])
+        ])
       ])
     ]
 
