@@ -44,7 +44,7 @@ call_keeps k task service args h runs =
     answer_by (λ a. IsKernel a.kernel) k task service args
     (activated_keeps k first h) (terminated_keeps k task h runs.runs)
     (chain_by (λ a. IsKernel a.kernel) k task first
-        (activated_keeps (suspended k task) first (terminated_keeps k task h runs.runs)) (λ _ _. h))
+    (activated_keeps (suspended k task) first (terminated_keeps k task h runs.runs)) (λ _ _. h))
     h h
 
 same_rest_chained : (k : KernelState) (caller task : ℕ) → SameRest k (activated (suspended k caller) task)
@@ -99,7 +99,7 @@ call_leaves k task service args kind =
     answer_by (λ a. a.need ≡ Leaves kind → (kind ≡ Ends) × (a.kernel.running ≡ nobody)) k task service args
     (λ e. cc) (λ e. (cc, refl))
     (chain_by (λ a. a.need ≡ Leaves kind → (kind ≡ Ends) × (a.kernel.running ≡ nobody)) k task (slice_index args 0)
-        (λ e. (cc, (activated_states_alone (suspended k task) (slice_index args 0)).running)) (λ _ _ e. cc))
+    (λ e. (cc, (activated_states_alone (suspended k task) (slice_index args 0)).running)) (λ _ _ e. cc))
     (λ e. cc) (λ e. cc)
 
 -- a refused activation changes nothing
@@ -111,5 +111,5 @@ refusal_changes_nothing k task service args =
     answer_by (λ a. a.entry.status ≢ E_OK → (a.kernel ≡ k) × (a.need ≡ Goes)) k task service args
     (λ ne. (refused_activation k (slice_index args 0) ne, refl)) (λ ne. absurd (ne refl))
     (chain_by (λ a. a.entry.status ≢ E_OK → (a.kernel ≡ k) × (a.need ≡ Goes)) k task (slice_index args 0)
-        (λ ne. absurd (ne refl)) (λ _ _ _. (refl, refl)))
+    (λ ne. absurd (ne refl)) (λ _ _ _. (refl, refl)))
     (λ _. (refl, refl)) (λ _. (refl, refl))

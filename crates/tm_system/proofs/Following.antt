@@ -141,14 +141,14 @@ chain_service k caller task =
 answer_service : (k : KernelState) (task service : ℕ) (args : List ℕ) → (answer k task service args).entry.service ≡ service
 answer_service k task service args =
     elim (cases_Bool (service == 1)) [
-      inl e ↦ rw e (sym (eqb-true service 1 e))
-    | inr e ↦ rw e (elim (cases_Bool (service == 2)) [
-        inl f ↦ rw f (sym (eqb-true service 2 f))
-      | inr f ↦ rw f (elim (cases_Bool (service == 3)) [
-          inl g ↦ rw g (chain_service k task (slice_index args 0) ∙ sym (eqb-true service 3 g))
-        | inr g ↦ rw g (elim (cases_Bool (service == 9)) [
-            inl n ↦ rw n (sym (eqb-true service 9 n))
-          | inr n ↦ rw n refl
+      | inl e ↦ rw e (sym (eqb-true service 1 e))
+      | inr e ↦ rw e (elim (cases_Bool (service == 2)) [
+        | inl f ↦ rw f (sym (eqb-true service 2 f))
+        | inr f ↦ rw f (elim (cases_Bool (service == 3)) [
+          | inl g ↦ rw g (chain_service k task (slice_index args 0) ∙ sym (eqb-true service 3 g))
+          | inr g ↦ rw g (elim (cases_Bool (service == 9)) [
+            | inl n ↦ rw n (sym (eqb-true service 9 n))
+            | inr n ↦ rw n refl
           ])
         ])
       ])
