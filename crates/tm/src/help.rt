@@ -3,7 +3,7 @@
 pub const VERSION: &str = "tm 0.1.0\n";
 
 pub const HELP: &str = "\
-tm records and replays preemptive control software.
+tm runs preemptive control software and prints what it did.
 
     tm trace IMAGE PLAN    prints the whole run of the plan on the image, from boot
     tm --help              prints this

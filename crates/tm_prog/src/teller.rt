@@ -54,7 +54,7 @@ impl Teller {
 
     /// Tells what a moment added: its output waits for the next control entry, and a control entry is
     /// told at once.
-    #[inline]
+    #[inline(always)]
     pub(crate) fn note(
         &mut self,
         alloc: Global,
@@ -89,6 +89,7 @@ impl Teller {
     }
 
     /// Tells a control entry.
+    #[inline(never)]
     fn tell(
         &mut self,
         alloc: Global,
