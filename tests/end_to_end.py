@@ -61,7 +61,7 @@ def check_refusals(folder):
 
 def main():
     if not os.access(program, os.X_OK):
-        sys.exit(f"{program} is not built: run rt ci first, or ./tm --version")
+        subprocess.run([os.path.join(top, "tm"), "--version"], check=True, stdout=subprocess.DEVNULL)
     for name in sorted(os.listdir(cases)):
         if name.endswith(".tmi"):
             base = name[: -len(".tmi")]
