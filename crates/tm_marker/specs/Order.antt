@@ -1,5 +1,5 @@
 -- When two markers are one, and which of two comes first.
-use Rattle.std.specs.Prelude.{◌≡◌, ℕ, Bool, ◌&&◌, ◌||◌, ◌==◌, nat_lt, true}
+use Rattle.std.specs.Prelude.{◌≡◌, Bool, ◌&&◌, ◌||◌, ◌==◌, nat_lt, true}
 use Rattle.tm_marker.specs.declared.marker.Marker.{Marker}
 
 -- the markers agree in epoch, count and pc
