@@ -1,0 +1,10 @@
+pub mod Counting
+pub mod Holding
+pub mod Summary
+pub mod Users
+pub mod Places
+pub mod Differences
+pub mod Countdowns
+pub mod Waits
+pub mod Listed
+pub mod Ticking

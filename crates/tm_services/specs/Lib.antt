@@ -1,0 +1,4 @@
+pub mod Ceilings
+pub mod Alarms
+pub mod Held
+pub mod Waiting
