@@ -1,35 +1,26 @@
 -- What holds of every kernel, whatever it is asked.
-use Rattle.std.specs.Prelude.{◌≡◌, ◌≢◌, ℕ, ◌<◌, ◌≤◌, ◌⊎◌, Bool, List, length, slice_get, option_map, unwrap_or, Some}
+use Rattle.std.specs.Prelude.{◌≡◌, ◌≢◌, ℕ, ◌<◌, ◌≤◌, ◌⊎◌, Bool, List, length, slice_get, Some}
 use Rattle.tm_marker.specs.declared.entries.Kind.{Kind}
-use Rattle.tm_marker.specs.declared.entries.Kind.TheVariants.{Ends}
+use Rattle.tm_marker.specs.declared.entries.Kind.TheVariants.{Preempted, Waits, Ends, Fault, Shutdown, Idle}
+use Rattle.tm_services.specs.Ceilings.{current}
+use Rattle.tm_services.specs.declared.status.TheConstants.{E_OK}
 use Rattle.tm_kernel.specs.declared.kernel.Need.TheVariants.{Goes, Leaves}
 use Rattle.tm_kernel.specs.declared.kernel.TaskState.TheVariants.{Ready, Running}
 use Rattle.tm_kernel.specs.declared.spec.KernelSpec.{KernelSpec}
-use Rattle.tm_kernel.specs.declared.status.TheConstants.{E_OK}
 use Rattle.tm_kernel.specs.Spec.{IsKernelSpec}
-use Rattle.tm_kernel.specs.State.{KernelState, IsKernel, IsRunning, nobody, booted}
-use Rattle.tm_kernel.specs.Service.{answer}
-use Rattle.tm_kernel.specs.Schedule.{pick, run_task, rescheduled, arrived, stopped}
+use Rattle.tm_kernel.specs.State.{KernelState, IsKernel, IsRunning, nobody, booted, stopped}
+use Rattle.tm_kernel.specs.Service.{Answered, answer}
+use Rattle.tm_kernel.specs.Schedule.{pick, run_task, rescheduled, arrived}
 
 -- the task is ready or running
 abbrev pub CanRun : KernelState → ℕ → Type 0
 CanRun k task = (slice_get k.states task ≡ Some Ready) ⊎ (slice_get k.states task ≡ Some Running)
 
--- a task's priority, and 0 where there is no such task
-abbrev pub priority_of : KernelState → ℕ → ℕ
-priority_of k task = unwrap_or (option_map (λ t. t.priority) (slice_get k.spec.tasks task)) 0
-
--- the task can run, and none that can run has a greater priority
+-- the task can run, and none that can run has a greater current priority
 pub record IsGreatest (k : KernelState) (task : ℕ) : Type 0 where
   pub there : task < length k.spec.tasks
   pub can_run : CanRun k task
-  pub greatest : (other : ℕ) → CanRun k other → priority_of k other ≤ priority_of k task
-
--- the kernels have one specification, one set of latched words, and one answer to whether the run goes on
-pub record SameRest (old new : KernelState) : Type 0 where
-  pub spec : new.spec ≡ old.spec
-  pub ports : new.ports ≡ old.ports
-  pub ended : new.ended ≡ old.ended
+  pub greatest : (other : ℕ) → CanRun k other → current k.ceilings other ≤ current k.ceilings task
 
 -- what every kernel keeps holds at boot
 abbrev pub BootIsKernel : Type 0
@@ -37,16 +28,16 @@ BootIsKernel = (spec : KernelSpec) → IsKernelSpec spec → IsKernel (booted sp
 
 -- a call keeps it
 abbrev pub CallKeeps : Type 0
-CallKeeps = (k : KernelState) (task service : ℕ) (args : List ℕ) → IsKernel k → IsRunning k task →
+CallKeeps = (k : KernelState) (task service : ℕ) (args : List ℕ) → length args ≡ 6 → IsKernel k → IsRunning k task →
     IsKernel (answer k task service args).kernel
 
 -- an arrival keeps it
 abbrev pub ArrivalKeeps : Type 0
 ArrivalKeeps = (k : KernelState) (mask : ℕ) (ports : List ℕ) → IsKernel k → IsKernel (arrived k mask ports)
 
--- to run the picked task keeps it
+-- to run the picked task keeps it, while the run goes on
 abbrev pub RunKeeps : Type 0
-RunKeeps = (k : KernelState) → IsKernel k → pick k ≢ nobody → IsKernel (run_task k (pick k))
+RunKeeps = (k : KernelState) → IsKernel k → k.ended ≡ 0 → pick k ≢ nobody → IsKernel (run_task k (pick k))
 
 -- a rescheduling keeps it
 abbrev pub ReschedulingKeeps : Type 0
@@ -64,9 +55,9 @@ PicksGreatest = (k : KernelState) → IsKernel k → pick k ≢ nobody → IsGre
 abbrev pub PicksSomebody : Type 0
 PicksSomebody = (k : KernelState) (task : ℕ) → IsKernel k → CanRun k task → pick k ≢ nobody
 
--- after a rescheduling the picked task runs; where nobody is picked, nobody runs
+-- after a rescheduling, while the run goes on, the picked task runs; where nobody is picked, nobody runs
 abbrev pub RunsThePick : Type 0
-RunsThePick = (k : KernelState) → IsKernel k → (rescheduled k).running ≡ pick k
+RunsThePick = (k : KernelState) → IsKernel k → k.ended ≡ 0 → (rescheduled k).running ≡ pick k
 
 -- after a rescheduling nobody runs, or a task that there is
 abbrev pub RunsATask : Type 0
@@ -74,8 +65,18 @@ RunsATask = (k : KernelState) → IsKernel k →
     ((rescheduled k).running ≡ nobody) ⊎ ((rescheduled k).running < length k.spec.tasks)
 
 -- a rescheduling changes only who runs
+pub record SameButStates (old new : KernelState) : Type 0 where
+  pub spec : new.spec ≡ old.spec
+  pub events : new.events ≡ old.events
+  pub awaited : new.awaited ≡ old.awaited
+  pub ceilings : new.ceilings ≡ old.ceilings
+  pub alarms : new.alarms ≡ old.alarms
+  pub boxes : new.boxes ≡ old.boxes
+  pub ports : new.ports ≡ old.ports
+  pub ended : new.ended ≡ old.ended
+
 abbrev pub ReschedulingSameRest : Type 0
-ReschedulingSameRest = (k : KernelState) → SameRest k (rescheduled k)
+ReschedulingSameRest = (k : KernelState) → SameButStates k (rescheduled k)
 
 -- where a task runs, one runs after a rescheduling
 abbrev pub GoesOnRunning : Type 0
@@ -86,26 +87,55 @@ abbrev pub ArrivalGoesOn : Type 0
 ArrivalGoesOn = (k : KernelState) (mask : ℕ) (ports : List ℕ) → IsKernel k → k.running ≢ nobody →
     (rescheduled (arrived k mask ports)).running ≢ nobody
 
--- an arrival latches its ports, and leaves the running task and the end of the run as they were
+-- what an arrival leaves as it was, and the words that it latches
+pub record SameInArrival (old : KernelState) (words : List ℕ) (new : KernelState) : Type 0 where
+  pub spec : new.spec ≡ old.spec
+  pub ceilings : new.ceilings ≡ old.ceilings
+  pub boxes : new.boxes ≡ old.boxes
+  pub running : new.running ≡ old.running
+  pub ended : new.ended ≡ old.ended
+  pub ports : new.ports ≡ words
+
 abbrev pub ArrivalLatches : Type 0
-ArrivalLatches = (k : KernelState) (mask : ℕ) (ports : List ℕ) →
-    SameRest (record k { ports = ports }) (arrived k mask ports) × ((arrived k mask ports).running ≡ k.running)
+ArrivalLatches = (k : KernelState) (mask : ℕ) (ports : List ℕ) → SameInArrival k ports (arrived k mask ports)
 
--- a call leaves the specification, the ports and the end of the run as they were
+-- a call leaves the specification and the latched words as they were
+pub record SameInCall (old new : KernelState) : Type 0 where
+  pub spec : new.spec ≡ old.spec
+  pub ports : new.ports ≡ old.ports
+
 abbrev pub CallSameRest : Type 0
-CallSameRest = (k : KernelState) (task service : ℕ) (args : List ℕ) → SameRest k (answer k task service args).kernel
+CallSameRest = (k : KernelState) (task service : ℕ) (args : List ℕ) → SameInCall k (answer k task service args).kernel
 
--- a caller that goes on is the running task still, and somebody runs after the rescheduling
+-- the entry of an answer has the called service's number
+abbrev pub CallNamesService : Type 0
+CallNamesService = (k : KernelState) (task service : ℕ) (args : List ℕ) → (answer k task service args).entry.service ≡ service
+
+-- a caller that goes on is the running task still, the run goes on, and somebody runs after the rescheduling
+pub record GoesOn (k : KernelState) (task : ℕ) (new : KernelState) : Type 0 where
+  pub running : IsRunning new task
+  pub ended : new.ended ≡ k.ended
+  pub somebody : (rescheduled new).running ≢ nobody
+
 abbrev pub CallGoesOn : Type 0
-CallGoesOn = (k : KernelState) (task service : ℕ) (args : List ℕ) → IsKernel k → IsRunning k task →
-    (answer k task service args).need ≡ Goes →
-    IsRunning (answer k task service args).kernel task × ((rescheduled (answer k task service args).kernel).running ≢ nobody)
+CallGoesOn = (k : KernelState) (task service : ℕ) (args : List ℕ) → length args ≡ 6 → IsKernel k → IsRunning k task →
+    (answer k task service args).need ≡ Goes → GoesOn k task (answer k task service args).kernel
 
--- a caller that leaves has ended, and nobody runs until the rescheduling
+-- how a caller leaves the processor: it waits, and is not the next to run; or it ends; or it shut the
+-- system down, and nobody runs any more. By no other kind does a call leave the processor.
+abbrev pub LeavesBy : Kind → KernelState → ℕ → KernelState → Type 0
+LeavesBy Waits k task new = (new.ended ≡ k.ended) × ((rescheduled new).running ≢ task)
+LeavesBy Ends k task new = new.ended ≡ k.ended
+LeavesBy Shutdown k task new = (new.ended ≡ 2) × ((rescheduled new).running ≡ nobody)
+LeavesBy Preempted k task new = ⊥
+LeavesBy Fault k task new = ⊥
+LeavesBy Idle k task new = ⊥
+
+-- a caller that leaves does so by one of these kinds, and nobody runs until the rescheduling
 abbrev pub CallLeaves : Type 0
-CallLeaves = (k : KernelState) (task service : ℕ) (args : List ℕ) (kind : Kind) →
+CallLeaves = (k : KernelState) (task service : ℕ) (args : List ℕ) (kind : Kind) → length args ≡ 6 → IsKernel k → IsRunning k task →
     (answer k task service args).need ≡ Leaves kind →
-    (kind ≡ Ends) × ((answer k task service args).kernel.running ≡ nobody)
+    ((answer k task service args).kernel.running ≡ nobody) × LeavesBy kind k task (answer k task service args).kernel
 
 -- a refused call changes nothing, and its caller goes on
 abbrev pub RefusalChangesNothing : Type 0

@@ -1,52 +1,86 @@
--- Who runs next, what an interrupt does, and how a run ends.
-use Rattle.std.specs.Prelude.{ℕ, ◌+◌, ◌/◌, ◌%◌, ◌^◌, Bool, ◌==◌, if◌then◌else◌, List, [], ◌∷◌, fold, position, slice_set, Option, None, unwrap_or, max}
+-- Who runs next, and what an interrupt does.
+use Rattle.std.specs.Prelude.{ℕ, ◌+◌, ◌/◌, ◌%◌, ◌^◌, Bool, ◌==◌, ◌&&◌, if◌then◌else◌, List, [], ◌∷◌, map, fold, position, slice_set, Option, Some, None, unwrap_or, max}
+use Rattle.tm_services.specs.Ceilings.{CeilingsView, current, holds}
+use Rattle.tm_services.specs.Alarms.{ticked, due}
 use Rattle.tm_kernel.specs.declared.spec.Action.{Action}
 use Rattle.tm_kernel.specs.declared.spec.Action.TheVariants.{Nothing, Tick, Activate, Event}
-use Rattle.tm_kernel.specs.declared.spec.TaskSpec.{TaskSpec}
+use Rattle.tm_kernel.specs.declared.kernel.claim.Claim.{Claim}
 use Rattle.tm_kernel.specs.declared.kernel.TaskState.{TaskState}
 use Rattle.tm_kernel.specs.declared.kernel.TaskState.TheVariants.{Suspended, Ready, Running, Waiting}
-use Rattle.tm_kernel.specs.State.{KernelState, nobody}
-use Rattle.tm_kernel.specs.Service.{activated}
+use Rattle.tm_kernel.specs.State.{KernelState, nobody, paused}
+use Rattle.tm_kernel.specs.Service.{activated, events_set}
 
--- the current priority of a task that can run, and 0 of one that can't
-abbrev pub level : TaskSpec → TaskState → ℕ
-level task Suspended = 0
-level task Ready = task.priority
-level task Running = task.priority
-level task Waiting = 0
+-- a task's claim to the processor, by its state: its current priority where it can run and else 0, and
+-- whether it holds a resource
+abbrev pub claim : CeilingsView → ℕ → TaskState → Claim
+claim c task Suspended = record { priority = 0; holder = holds c task }
+claim c task Ready = record { priority = current c task; holder = holds c task }
+claim c task Running = record { priority = current c task; holder = holds c task }
+claim c task Waiting = record { priority = 0; holder = holds c task }
 
--- the levels of all tasks, in order
-abbrev pub levels : List TaskSpec → List TaskState → List ℕ
-levels [] states = []
-levels (t ∷ ts) [] = []
-levels (t ∷ ts) (s ∷ ss) = level t s ∷ levels ts ss
+-- the claims of the tasks in these states, the first being the task of this number
+abbrev pub claims_from : CeilingsView → ℕ → List TaskState → List Claim
+claims_from c task [] = []
+claims_from c task (s ∷ ss) = claim c task s ∷ claims_from c (task + 1) ss
 
--- the place of the greatest number above 0, the first where several are equal
-abbrev pub first_greatest : List ℕ → Option ℕ
-first_greatest xs = if fold max 0 xs == 0 then None else position (λ x. x == fold max 0 xs) xs
+-- the claims of all tasks
+abbrev pub claims : KernelState → List Claim
+claims k = claims_from k.ceilings 0 k.states
 
--- the ready or running task of greatest current priority, or nobody
+-- the greatest current priority of the tasks that can run, and 0 where none can
+abbrev pub greatest : List Claim → ℕ
+greatest cs = fold max 0 (map (λ c. c.priority) cs)
+
+-- the place of the first claim of this priority that a holder of a resource has
+abbrev pub first_holder : ℕ → List Claim → Option ℕ
+first_holder priority cs = position (λ c. c.priority == priority && c.holder) cs
+
+-- the place of the first claim of this priority
+abbrev pub first_claim : ℕ → List Claim → Option ℕ
+first_claim priority cs = position (λ c. c.priority == priority) cs
+
+-- the place of the greatest claim: among equal priorities a holder's, else the first
+abbrev pub pick_of : List Claim → ℕ
+pick_of cs =
+    if greatest cs == 0 then nobody
+    else unwrap_or (first_holder (greatest cs) cs) (unwrap_or (first_claim (greatest cs) cs) nobody)
+
+-- the ready or running task of greatest current priority, the holder of a resource among equals, or nobody
+-- (OSEK/VDX OS 2.2.3, 4.6.5 and 8.5)
 abbrev pub pick : KernelState → ℕ
-pick k = unwrap_or (first_greatest (levels k.spec.tasks k.states)) nobody
-
--- the states when nobody runs: the running task, where there is one, is ready
-abbrev pub paused : KernelState → List TaskState
-paused k = if k.running == nobody then k.states else slice_set k.states k.running Ready
+pick k = pick_of (claims k)
 
 -- the task runs, and another that ran before is ready
 abbrev pub run_task : KernelState → ℕ → KernelState
 run_task k task = record k { states = slice_set (paused k) task Running; running = task }
 
--- one rescheduling: the picked task runs, where there is one
+-- one rescheduling, while the run goes on: the picked task runs, where there is one
 abbrev pub rescheduled : KernelState → KernelState
-rescheduled k = if pick k == nobody then k else run_task k (pick k)
+rescheduled k = if k.ended == 0 then (if pick k == nobody then k else run_task k (pick k)) else k
 
--- an action of a line; one that would be refused has no effect
+-- what an alarm or a line does to the tasks; an action that would be refused has no effect
+abbrev pub acted : KernelState → Action → KernelState
+acted k Nothing = k
+acted k Tick = k
+acted k (Activate task) = activated k task
+acted k (Event task mask) = events_set k task mask
+
+-- the actions of the alarms that are due, in rising alarm
+abbrev pub due_actions : List Bool → List Action → List Action
+due_actions [] actions = []
+due_actions (d ∷ ds) [] = []
+due_actions (d ∷ ds) (a ∷ as') = if d then a ∷ due_actions ds as' else due_actions ds as'
+
+-- one tick: every alarm counts down by one, then the actions of those that are due are performed
+abbrev pub tick : KernelState → KernelState
+tick k = fold acted (record k { alarms = ticked k.alarms }) (due_actions (due k.alarms) k.spec.alarms)
+
+-- an action of a line
 abbrev pub performed : KernelState → Action → KernelState
 performed k Nothing = k
-performed k Tick = k
+performed k Tick = tick k
 performed k (Activate task) = activated k task
-performed k (Event task mask) = k
+performed k (Event task mask) = events_set k task mask
 
 -- the actions of the lines whose bits are set in a mask, in rising line; the first action is that of `line`
 abbrev pub raised_actions : ℕ → ℕ → List Action → List Action
@@ -57,7 +91,3 @@ raised_actions mask line (a ∷ as') =
 -- an arrival, without the rescheduling: the ports are latched, then the actions of the mask's lines follow
 abbrev pub arrived : KernelState → ℕ → List ℕ → KernelState
 arrived k mask ports = fold performed (record k { ports = ports }) (raised_actions mask 0 k.spec.lines)
-
--- a run's end, by a fault or by a shutdown: the running task becomes ready, and nobody runs
-abbrev pub stopped : KernelState → Bool → KernelState
-stopped k fault = record k { states = paused k; running = nobody; ended = if fault then 1 else 2 }

@@ -18,12 +18,13 @@ IsAlarmAction tasks Tick = ⊥
 IsAlarmAction tasks (Activate t) = t < tasks
 IsAlarmAction tasks (Event t mask) = t < tasks
 
--- 1 to 16 tasks of distinct priorities above 0; at most 16 resources, each with a declared user;
+-- 1 to 16 tasks of distinct priorities from 1 to 255; at most 16 resources, each with a declared user;
 -- at most 16 alarms; at most 16 boxes of 1 to 64 messages; each action names a task that there is
 pub record IsKernelSpec (spec : KernelSpec) : Type 0 where
   pub some_task : 0 < length spec.tasks
   pub few_tasks : length spec.tasks ≤ 16
   pub priorities : All (λ t. 0 < t.priority) spec.tasks
+  pub small : All (λ t. t.priority < 256) spec.tasks
   pub distinct : AllPairs (λ s t. s.priority ≢ t.priority) spec.tasks
   pub few_resources : length spec.users ≤ 16
   pub users : All (λ mask. (0 < mask) × (mask < 2 ^ length spec.tasks)) spec.users

@@ -1,16 +1,26 @@
 //! The scheduler's state, and the calls that only read it or make it.
 
-ghost use Rattle.std.specs.Prelude.{◌≡◌, ◌<◌, length, slice_get, Some, IfOk, option_map, map};
+ghost use Rattle.std.specs.Prelude.{◌≡◌, ◌<◌, ◌≤◌, length, slice_get, Some, IfOk, option_map, map};
 ghost use Rattle.tm_kernel.specs.Spec.{IsKernelSpec};
-ghost use Rattle.tm_kernel.specs.State.{IsKernel, booted, boot_state, state_number};
+ghost use Rattle.tm_kernel.specs.State.{IsKernel, booted, boot_state, state_number, padded};
 
+mod alarms;
+mod call;
+mod claim;
+mod events;
+mod messages;
+mod ports;
+mod reply;
+mod resources;
 mod schedule;
-mod service;
+mod tasks;
 
+use crate::mailbox::Mailboxes;
 use crate::{KernelSpec, TaskSpec};
 use std::alloc::{AllocError, Global};
 use std::marker::Model;
 use tm_marker::{DataEntry, Items, Kind, NOBODY, OutputEntry};
+use tm_services::{Alarms, Ceilings};
 
 /// The states of a task (OSEK/VDX OS 2.2.3, 4.2).
 #[derive(Clone, Copy, Debug, PartialEq, Eq)]
@@ -42,12 +52,18 @@ pub struct Answer {
 pub struct Kernel {
     spec: KernelSpec,
     states: Items<TaskState>,
+    events: Items<u32>,
+    awaited: Items<u32>,
+    ceilings: Ceilings,
+    alarms: Alarms,
+    boxes: Mailboxes,
     ports: [u32; 4],
     running: u8,
     ended: u8,
 }
 
 impl Model for Kernel {
+    ghost use Rattle.std.specs.Prelude.{◌≡◌};
     ghost use Rattle.tm_kernel.specs.State.{KernelState, IsKernel};
 
     ghost Value = { KernelState };
@@ -55,6 +71,11 @@ impl Model for Kernel {
     ghost view = { λ k. record {
       spec = k.spec;
       states = k.states;
+      events = k.events;
+      awaited = k.awaited;
+      ceilings = k.ceilings;
+      alarms = k.alarms;
+      boxes = k.boxes.messages;
       ports = k.ports;
       running = k.running;
       ended = k.ended;
@@ -63,10 +84,15 @@ impl Model for Kernel {
     ghost invariant = { λ k. IsKernel (record {
       spec = k.spec;
       states = k.states;
+      events = k.events;
+      awaited = k.awaited;
+      ceilings = k.ceilings;
+      alarms = k.alarms;
+      boxes = k.boxes.messages;
       ports = k.ports;
       running = k.running;
       ended = k.ended;
-    }) };
+    }) × (k.boxes.capacities ≡ k.spec.boxes) };
 }
 
 impl Kernel {
@@ -76,8 +102,18 @@ impl Kernel {
         ensures boot { IfOk result (λ kernel. kernel ≡ booted spec.now) }
         ensures sound { IfOk result (λ kernel. IsKernel kernel) }
     {
+        let tasks = spec.tasks.as_slice();
         Ok(Kernel {
-            states: Items::from(boot_states(alloc, spec.tasks.as_slice())?),
+            states: Items::from(boot_states(alloc, tasks)?),
+            events: Items::from(vec![in alloc; 0; tasks.len()]?),
+            awaited: Items::from(vec![in alloc; 0; tasks.len()]?),
+            ceilings: Ceilings::new(
+                padded_priorities(tasks),
+                padded_users(spec.users.as_slice()),
+                spec.users.len() as u8,
+            ),
+            alarms: Alarms::new(spec.alarms.len() as u8),
+            boxes: Mailboxes::new(alloc, spec.boxes.as_slice())?,
             spec: copied(alloc, spec)?,
             ports: [0; 4],
             running: NOBODY,
@@ -116,6 +152,23 @@ impl Kernel {
     {
         self.states.at(usize::from(task)) as u8
     }
+
+    /// Becomes a copy of a kernel of the same specification, without taking memory.
+    pub fn copy_from(&mut self, other: &Kernel)
+        requires { self.old.spec ≡ other.now.spec }
+        ensures copied { self.new ≡ other.now }
+        ensures sound { IsKernel self.new }
+    {
+        self.states.copy_from_slice(other.states.as_slice());
+        self.events.copy_from_slice(other.events.as_slice());
+        self.awaited.copy_from_slice(other.awaited.as_slice());
+        self.ceilings.copy_from(&other.ceilings);
+        self.alarms.copy_from(&other.alarms);
+        self.boxes.copy_from(&other.boxes);
+        self.ports = other.ports;
+        self.running = other.running;
+        self.ended = other.ended;
+    }
 }
 
 fn boot_states(alloc: Global, tasks: &[TaskSpec]) -> Result<Vec<TaskState>, AllocError>
@@ -135,6 +188,28 @@ fn boot_state(auto: bool) -> TaskState
     } else {
         TaskState::Suspended
     }
+}
+
+/// The static priorities, with 0 for each task that there is not.
+fn padded_priorities(tasks: &[TaskSpec]) -> [u8; 16]
+    requires { length tasks.now ≤ 16 }
+    ensures { result ≡ padded (map (λ t. t.priority) tasks.now) }
+{
+    let mut priorities = [0; 16];
+    for (task, spec) in tasks.iter().enumerate() {
+        priorities[task] = spec.priority;
+    }
+    priorities
+}
+
+/// The masks of users, with 0 for each resource that there is not.
+fn padded_users(masks: &[u16]) -> [u16; 16]
+    requires { length masks.now ≤ 16 }
+    ensures { result ≡ padded masks.now }
+{
+    let mut users = [0; 16];
+    users[..masks.len()].copy_from_slice(masks);
+    users
 }
 
 fn copied(alloc: Global, spec: &KernelSpec) -> Result<KernelSpec, AllocError>

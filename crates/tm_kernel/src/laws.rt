@@ -3,7 +3,7 @@
 
 ghost use Rattle.tm_kernel.specs.Laws.{BootIsKernel, CallKeeps, ArrivalKeeps, RunKeeps, ReschedulingKeeps, StopKeeps};
 ghost use Rattle.tm_kernel.specs.Laws.{PicksGreatest, PicksSomebody, RunsThePick, RunsATask, ReschedulingSameRest, GoesOnRunning};
-ghost use Rattle.tm_kernel.specs.Laws.{ArrivalGoesOn, ArrivalLatches, CallSameRest, CallGoesOn, CallLeaves, RefusalChangesNothing, StopEnds};
+ghost use Rattle.tm_kernel.specs.Laws.{ArrivalGoesOn, ArrivalLatches, CallSameRest, CallNamesService, CallGoesOn, CallLeaves, RefusalChangesNothing, StopEnds};
 
 /// What every kernel keeps holds at boot, and each step keeps it.
 pub fn kernels_stay_sound()
@@ -37,6 +37,7 @@ pub fn arrival_goes_on()
 
 /// What a call does beside its effect: the caller goes on or ends, and a refusal changes nothing.
 pub fn call_answers()
+    ensures service { CallNamesService }
     ensures rest { CallSameRest }
     ensures goes_on { CallGoesOn }
     ensures leaves { CallLeaves }

@@ -7,12 +7,13 @@
 
 mod kernel;
 pub mod laws;
+mod mailbox;
+pub mod nesting;
 mod spec;
-mod status;
 
 pub use kernel::{Answer, Kernel, Need, TaskState};
 pub use spec::{Action, KernelSpec, LINES, TaskSpec};
-pub use status::{
+pub use tm_services::{
     E_OK, E_OS_ACCESS, E_OS_ID, E_OS_LIMIT, E_OS_NOFUNC, E_OS_RESOURCE, E_OS_STATE, E_OS_VALUE,
 };
 

@@ -1,7 +1,9 @@
-//! A run of three tasks, worked by hand.
+//! A run of three tasks, worked by hand, and in `services` a table of calls.
 
-ghost use Rattle.std.specs.Prelude.{◌≡◌, false, IfOk};
+ghost use Rattle.std.specs.Prelude.{◌≡◌, IfOk};
 ghost use Rattle.tm_kernel.specs.Spec.{IsKernelSpec};
+
+mod services;
 
 use crate::{Action, Kernel, KernelSpec, Need, TaskSpec};
 use std::alloc::{AllocError, Global};
@@ -29,7 +31,7 @@ const ROWS: [Row; 12] = [
     Row(Deed::Call(1, 0, 4, Need::Goes), [1, 2, 1], 1),
     Row(Deed::Call(1, 1, 4, Need::Goes), [1, 2, 1], 1),
     Row(Deed::Call(1, 3, 3, Need::Goes), [1, 2, 1], 1),
-    Row(Deed::Call(7, 0, 5, Need::Goes), [1, 2, 1], 1),
+    Row(Deed::Call(21, 0, 5, Need::Goes), [1, 2, 1], 1),
     Row(Deed::Call(2, 0, 0, ENDS), [2, 0, 1], 0),
     Row(Deed::Lines(0b10_0011), [1, 2, 1], 1),
     Row(Deed::Call(2, 0, 0, ENDS), [2, 0, 1], 0),
@@ -38,11 +40,11 @@ const ROWS: [Row; 12] = [
     Row(Deed::Lines(0b110), [0, 0, 2], 2),
 ];
 
-fn task(priority: u8, auto: bool) -> TaskSpec
-    ensures { result ≡ record { extended = false; priority = priority; auto = auto } }
+fn task(extended: bool, priority: u8, auto: bool) -> TaskSpec
+    ensures { result ≡ record { extended = extended; priority = priority; auto = auto } }
 {
     TaskSpec {
-        extended: false,
+        extended,
         priority,
         auto,
     }
@@ -51,7 +53,11 @@ fn task(priority: u8, auto: bool) -> TaskSpec
 fn spec(alloc: Global) -> Result<KernelSpec, AllocError>
     ensures { IfOk result IsKernelSpec }
 {
-    let tasks = vec![in alloc; task(5, true), task(9, false), task(2, true)]?;
+    let tasks = vec![in alloc;
+        task(false, 5, true),
+        task(false, 9, false),
+        task(false, 2, true),
+    ]?;
     Ok(KernelSpec {
         tasks: Items::from(tasks),
         users: Items::new(alloc),

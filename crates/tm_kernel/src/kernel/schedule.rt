@@ -1,26 +1,29 @@
 //! Who runs next, what an interrupt does, and how a run ends.
 
-ghost use Rattle.std.specs.Prelude.{◌≡◌, ◌≢◌, ◌<◌, ◌≤◌, slice_get, length, fold, unwrap_or};
-ghost use Rattle.tm_kernel.specs.State.{IsKernel, nobody};
-ghost use Rattle.tm_kernel.specs.Schedule.{pick, run_task, rescheduled, arrived, performed, raised_actions, stopped, first_greatest, level, levels, paused};
+ghost use Rattle.std.specs.Prelude.{◌≡◌, ◌≢◌, ◌<◌, fold};
+ghost use Rattle.tm_kernel.specs.State.{IsKernel, nobody, paused, stopped};
+ghost use Rattle.tm_kernel.specs.Schedule.{pick, run_task, rescheduled, arrived, performed, raised_actions};
 
+use super::claim::first_greatest;
 use super::{Kernel, TaskState};
-use crate::{Action, LINES, TaskSpec};
+use crate::{Action, LINES};
 use tm_marker::NOBODY;
 
 impl Kernel {
-    /// The ready or running task of greatest priority, or [`NOBODY`].
+    /// The ready or running task of greatest current priority, the holder of a resource among equals,
+    /// or [`NOBODY`].
     pub fn pick(&self) -> u8
         ensures picked { result ≡ pick self.now }
         ensures sound { IsKernel self.now }
     {
-        first_greatest(self.spec.tasks.as_slice(), self.states.as_slice())
+        first_greatest(&self.ceilings, self.states.as_slice())
     }
 
     /// Runs the picked task; another that ran before becomes ready.
     pub fn run(&mut self, task: u8)
         requires picked { task ≡ pick self.old }
         requires somebody { task ≢ nobody }
+        requires goes_on { self.old.ended ≡ 0 }
         ensures runs { self.new ≡ run_task self.old task }
         ensures sound { IsKernel self.new }
     {
@@ -29,13 +32,13 @@ impl Kernel {
         self.running = task;
     }
 
-    /// Runs the picked task, where there is one.
+    /// Runs the picked task, where there is one and the run goes on.
     pub fn reschedule(&mut self)
         ensures rescheduled { self.new ≡ rescheduled self.old }
         ensures sound { IsKernel self.new }
     {
         let task = self.pick();
-        if task != NOBODY {
+        if self.ended == 0 && task != NOBODY {
             self.run(task);
         }
     }
@@ -87,37 +90,8 @@ impl Kernel {
         ensures { self.new ≡ performed self.old action }
     {
         match action {
-            Action::Activate(task) => {
-                let _refused = self.activate(u32::from(task));
-            }
-            Action::Nothing | Action::Tick | Action::Event(..) => {}
+            Action::Tick => self.tick(),
+            Action::Nothing | Action::Activate(_) | Action::Event(..) => self.act(action),
         }
-    }
-}
-
-/// The place of the greatest level above 0, the first where several are equal, or [`NOBODY`].
-fn first_greatest(tasks: &[TaskSpec], states: &[TaskState]) -> u8
-    requires number { length tasks.now ≤ 16 }
-    requires states { length states.now ≡ length tasks.now }
-    ensures { result ≡ unwrap_or (first_greatest (levels tasks.now states.now)) nobody }
-{
-    let mut best = 0;
-    let mut picked = NOBODY;
-    for (index, task) in tasks.iter().enumerate() {
-        let here = level(*task, states[index]);
-        if here > best {
-            best = here;
-            picked = index as u8;
-        }
-    }
-    picked
-}
-
-fn level(task: TaskSpec, state: TaskState) -> u8
-    ensures { result ≡ level task state }
-{
-    match state {
-        TaskState::Ready | TaskState::Running => task.priority,
-        TaskState::Suspended | TaskState::Waiting => 0,
     }
 }

@@ -16,10 +16,23 @@ set-requires c =
 
 pub invariant_of-self : goal.invariant_of-self
 invariant_of-self c =
-    let after : KernelState = record { spec = c.self.inside.spec; states = c.set.new.self; ports = c.self.inside.ports; running = c.args.task; ended = c.self.inside.ended } in
-    let e : run_task c.args.self.now c.args.task ≡ after = search rules in
-    subst IsKernel e (runs_keeps c.args.self.now c.args.task c.pause.ensures.was_sound
-    (pick_within_at c.args.self.now c.args.task c.pause.ensures.was_sound c.requires.picked c.requires.somebody))
+    let after : KernelState = record {
+      spec = c.self.inside.spec;
+      states = c.set.new.self;
+      events = c.self.inside.events;
+      awaited = c.self.inside.awaited;
+      ceilings = c.self.inside.ceilings;
+      alarms = c.self.inside.alarms;
+      boxes = c.self.inside.boxes.messages;
+      ports = c.self.inside.ports;
+      running = c.args.task;
+      ended = c.self.inside.ended;
+    } in
+    let e : run_task c.args.self.now c.args.task ≡ after = search rules in (
+      subst IsKernel e (runs_keeps c.args.self.now c.args.task c.pause.ensures.was_sound c.requires.goes_on
+          (pick_within_at c.args.self.now c.args.task c.pause.ensures.was_sound c.requires.picked c.requires.somebody)),
+      c.self.invariant.1,
+    )
 
 pub returns-clause-sound : goal.returns-clause-sound
-returns-clause-sound c = invariant_of-self c
+returns-clause-sound c = (invariant_of-self c).0
