@@ -1,0 +1,2 @@
+pub mod Kept
+pub use Rattle.circular_buffer.specs.Buffer
