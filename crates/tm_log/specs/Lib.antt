@@ -1,0 +1,6 @@
+pub mod Caps
+pub mod Window
+pub use Rattle.tm_marker.specs.Shape
+pub use Rattle.tm_ring.specs.Buffer
+pub use Rattle.tm_ring.specs.Kept
+pub use Rattle.tm_check.specs.Checkpoint
