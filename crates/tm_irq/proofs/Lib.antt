@@ -1,0 +1,16 @@
+pub mod Sums
+pub mod Bits
+pub mod Seating
+pub mod Storing
+pub mod Keeping
+pub mod Seats
+pub mod Tallying
+pub mod Raising
+pub mod Taking
+pub mod Porting
+pub mod Homing
+pub mod Settling
+pub mod Balance
+pub mod Auditing
+pub mod Gathering
+pub mod Closing

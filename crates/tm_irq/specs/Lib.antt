@@ -1,0 +1,11 @@
+pub mod Views
+pub mod Rule
+pub mod Pending
+pub mod Steps
+pub mod Lists
+pub mod Tallies
+pub mod Seats
+pub mod Raised
+pub mod Audit
+pub mod Bench
+pub mod Laws
