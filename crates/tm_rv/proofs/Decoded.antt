@@ -168,7 +168,7 @@ unfolding instr_of
 is_decoded w i small h = from_op w (op_of w) i small refl h
 
 -- what a word is decoded to is encodable
-pub encodable_from : (w : ℕ) (o : Option Instr) → w < 2 ^ 32 → o ≡ instr_of w → IfSome o IsEncodable
+encodable_from : (w : ℕ) (o : Option Instr) → w < 2 ^ 32 → o ≡ instr_of w → IfSome o IsEncodable
 encodable_from w None small h = tt
 encodable_from w (Some i) small h = (is_decoded w i small (sym h)).fits
 
@@ -196,10 +196,21 @@ small_fields JType i fits = record { registers = (fits.0, omega arith, omega ari
 small_fields ShiftType i fits = record { registers = (fits.0, fits.1, omega arith); immediate = omega arith }
 small_fields WordType i fits = record { registers = (omega arith, omega arith, omega arith); immediate = omega arith }
 
-pub registers_from : (o : Option Instr) → IfSome o IsEncodable → IfSome o (λ i. IsRegister i.rd × IsRegister i.rs1 × IsRegister i.rs2)
+registers_from : (o : Option Instr) → IfSome o IsEncodable → IfSome o (λ i. IsRegister i.rd × IsRegister i.rs1 × IsRegister i.rs2)
 registers_from None h = tt
 registers_from (Some i) h = (small_fields _ i h).registers
 
-pub immediate_from : (o : Option Instr) → IfSome o IsEncodable → IfSome o (λ i. i.imm < 2 ^ 32)
+immediate_from : (o : Option Instr) → IfSome o IsEncodable → IfSome o (λ i. i.imm < 2 ^ 32)
 immediate_from None h = tt
 immediate_from (Some i) h = (small_fields _ i h).immediate
+
+-- what is known of the instruction that a word is, where it is one
+pub record AreSound (o : Option Instr) : Type 0 where
+  pub encodable : IfSome o IsEncodable
+  pub registers : IfSome o (λ i. IsRegister i.rd × IsRegister i.rs1 × IsRegister i.rs2)
+  pub immediate : IfSome o (λ i. i.imm < 2 ^ 32)
+
+pub decoded_from : (w : ℕ) (o : Option Instr) → w < 2 ^ 32 → o ≡ instr_of w → AreSound o
+decoded_from w o small same =
+    let fits : IfSome o IsEncodable = encodable_from w o small same in
+    record { encodable = fits; registers = registers_from o fits; immediate = immediate_from o fits }

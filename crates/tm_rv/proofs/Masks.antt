@@ -6,9 +6,8 @@ use Rattle.std.proofs.lemmas.Bool.Decides.{nat_tests}
 use Rattle.std.specs.Prelude.{◌==◌, ◌&&◌, find}
 use Rattle.std.specs.List.{list_all}
 use Rattle.std.specs.Option.{option_map}
-use Rattle.tm_rv.specs.Table.{Format, RType, IType, SType, BType, UType, JType, ShiftType, WordType, Row, rows, row_for, belongs, op_of}
-use Rattle.tm_rv.specs.ByFields.{has_opcode, has_funct3, has_funct7, fields_match, op_by, instr_by}
-use Rattle.tm_rv.specs.Instr.{split, instr_of}
+use Rattle.tm_rv.specs.Table.{Format, RType, IType, SType, BType, UType, JType, ShiftType, WordType, Row, rows, belongs, op_of}
+use Rattle.tm_rv.specs.ByFields.{has_opcode, has_funct3, has_funct7, fields_match, op_by}
 use Rattle.tm_rv.proofs.Rows.{is_regular, in_opcode, in_funct3, in_funct7}
 
 -- the code's mask of the lowest bits
@@ -91,12 +90,7 @@ same_find w (r ∷ rs) small regular =
     let rest = same_find w rs small (and_parts _ _ regular).1 in
     rw (here, rest)
 
-op_of_is : (word : ℕ) → word < 2 ^ 32 →
+pub op_of_is : (word : ℕ) → word < 2 ^ 32 →
     op_of word ≡ op_by (bit_and word 0x7f) (bit_and (word / 2 ^ 12) 7) (word / 2 ^ 25) word
 unfolding op_of
 op_of_is word small = ap (option_map (λ (r : Row). r.op)) (same_find word rows small refl)
-
-pub instr_of_is : (word : ℕ) → word < 2 ^ 32 →
-    instr_of word ≡ instr_by (bit_and word 0x7f) (bit_and (word / 2 ^ 12) 7) (word / 2 ^ 25) word
-unfolding instr_of
-instr_of_is word small = ap (option_map (λ op. split (row_for op).format op word)) (op_of_is word small)

@@ -2,9 +2,7 @@
 use Rattle.std.specs.Prelude.{ℕ, ◌/◌, ◌%◌, ◌^◌, Option, Bool, ◌==◌, ◌&&◌, find}
 use Rattle.std.specs.Option.{option_map}
 use Rattle.tm_rv.specs.declared.instr.Op.{Op}
-use Rattle.tm_rv.specs.Table.{Format, RType, IType, SType, BType, UType, JType, ShiftType, WordType, rows, row_for}
-use Rattle.tm_rv.specs.Instr.{split}
-use Rattle.tm_rv.specs.declared.instr.Instr.{Instr}
+use Rattle.tm_rv.specs.Table.{Format, RType, IType, SType, BType, UType, JType, ShiftType, WordType, rows}
 
 -- the opcode of these bits
 abbrev pub has_opcode : ℕ → ℕ → Bool
@@ -33,7 +31,3 @@ fields_match WordType bits opcode funct3 funct7 word = has_opcode bits opcode &&
 abbrev pub op_by : ℕ → ℕ → ℕ → ℕ → Option Op
 op_by opcode funct3 funct7 word =
     option_map (λ r. r.op) (find (λ r. fields_match r.format r.bits opcode funct3 funct7 word) rows)
-
--- the instruction of a word with these fields
-abbrev pub instr_by : ℕ → ℕ → ℕ → ℕ → Option Instr
-instr_by opcode funct3 funct7 word = option_map (λ op. split (row_for op).format op word) (op_by opcode funct3 funct7 word)

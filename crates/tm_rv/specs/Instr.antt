@@ -57,9 +57,13 @@ split JType op w = instr op (rd_of w) 0 0 (imm_of JType w)
 split ShiftType op w = instr op (rd_of w) (rs1_of w) 0 (imm_of ShiftType w)
 split WordType op w = instr op 0 0 0 (imm_of WordType w)
 
+-- the instruction of a word, if it asks for an operation
+abbrev pub instr_with : Option Op → ℕ → Option Instr
+instr_with operation word = option_map (λ op. split (row_for op).format op word) operation
+
 -- the instruction that a word is, if it belongs to a row
 unfoldable pub instr_of : ℕ → Option Instr
-instr_of word = option_map (λ op. split (row_for op).format op word) (op_of word)
+instr_of word = instr_with (op_of word) word
 
 -- a number of 32 bits that is the sign extension of its lowest bits
 abbrev pub IsSignExtended : ℕ → ℕ → Type 0

@@ -1,12 +1,11 @@
-//! From a word to the instruction that it is.
+//! From a word to the operation and to the instruction that it is.
 
 ghost use Rattle.std.specs.Prelude.{◌≡◌, ℕ, ◌^◌, ◌<◌, IfSome};
-ghost use Rattle.tm_rv.specs.ByFields.{instr_by};
-ghost use Rattle.tm_rv.specs.Instr.{instr_of, IsRegister, IsEncodable};
+ghost use Rattle.tm_rv.specs.ByFields.{op_by};
+ghost use Rattle.tm_rv.specs.Instr.{instr_of, instr_with, IsRegister, IsEncodable};
+ghost use Rattle.tm_rv.specs.Table.{op_of};
 
-use crate::formats::{
-    split_b, split_i, split_j, split_r, split_s, split_shift, split_u, split_word,
-};
+use crate::formats::split;
 use crate::{Instr, Op};
 
 // The major opcodes, by their names in table 24.1, "RISC-V base opcode map".
@@ -46,115 +45,124 @@ pub fn decode(word: u32) -> Option<Instr>
     ensures registers { IfSome result (λ i. IsRegister i.rd × IsRegister i.rs1 × IsRegister i.rs2) }
     ensures immediate { IfSome result (λ i. i.imm < 2 ^ 32) }
 {
+    match operation(word) {
+        Some(op) => Some(split(op, word)),
+        None => None,
+    }
+}
+
+/// The operation that a word asks for, or `None` where no row of the table matches. The
+/// instruction's fields are those of the operation's format: [`crate::rd`] and its like take each
+/// out of the word by itself, for who needs no whole [`Instr`].
+#[inline]
+pub fn operation(word: u32) -> Option<Op>
+    ensures table { result ≡ op_of word }
+    ensures decoded { instr_of word ≡ instr_with result word }
+{
     by_fields(word & 0x7f, (word >> 12) & 7, word >> 25, word)
 }
 
 /// The opcode tells the format, but for shifts by an immediate amount.
 #[inline]
-fn by_fields(opcode: u32, funct3: u32, funct7: u32, word: u32) -> Option<Instr>
-    ensures { result ≡ instr_by opcode funct3 funct7 word }
+fn by_fields(opcode: u32, funct3: u32, funct7: u32, word: u32) -> Option<Op>
+    ensures { result ≡ op_by opcode funct3 funct7 word }
 {
     match opcode {
-        LUI => Some(split_u(Op::Lui, word)),
-        AUIPC => Some(split_u(Op::Auipc, word)),
-        JAL => Some(split_j(Op::Jal, word)),
-        JALR if funct3 == 0 => Some(split_i(Op::Jalr, word)),
-        BRANCH => branch(funct3, word),
-        LOAD => load(funct3, word),
-        STORE => store(funct3, word),
-        OP_IMM => with_immediate(funct3, funct7, word),
-        OP => with_register(funct3, funct7, word),
-        MISC_MEM if funct3 == 0 => Some(split_i(Op::Fence, word)),
-        SYSTEM if word == ECALL => Some(split_word(Op::Ecall)),
-        SYSTEM if word == EBREAK => Some(split_word(Op::Ebreak)),
+        LUI => Some(Op::Lui),
+        AUIPC => Some(Op::Auipc),
+        JAL => Some(Op::Jal),
+        JALR if funct3 == 0 => Some(Op::Jalr),
+        BRANCH => branch(funct3),
+        LOAD => load(funct3),
+        STORE => store(funct3),
+        OP_IMM => with_immediate(funct3, funct7),
+        OP => with_register(funct3, funct7),
+        MISC_MEM if funct3 == 0 => Some(Op::Fence),
+        SYSTEM if word == ECALL => Some(Op::Ecall),
+        SYSTEM if word == EBREAK => Some(Op::Ebreak),
         _ => None,
     }
 }
 
 #[inline]
 #[tactic(auto, using(std::proofs::lemmas::Bool::Decides::nat_tests))]
-fn branch(funct3: u32, word: u32) -> Option<Instr>
-    ensures { (funct7 : ℕ) → result ≡ instr_by BRANCH funct3 funct7 word }
+fn branch(funct3: u32) -> Option<Op>
+    ensures { (funct7 word : ℕ) → result ≡ op_by BRANCH funct3 funct7 word }
 {
-    let op = match funct3 {
-        0b000 => Op::Beq,
-        0b001 => Op::Bne,
-        0b100 => Op::Blt,
-        0b101 => Op::Bge,
-        0b110 => Op::Bltu,
-        0b111 => Op::Bgeu,
-        _ => return None,
-    };
-    Some(split_b(op, word))
+    match funct3 {
+        0b000 => Some(Op::Beq),
+        0b001 => Some(Op::Bne),
+        0b100 => Some(Op::Blt),
+        0b101 => Some(Op::Bge),
+        0b110 => Some(Op::Bltu),
+        0b111 => Some(Op::Bgeu),
+        _ => None,
+    }
 }
 
 #[inline]
 #[tactic(auto, using(std::proofs::lemmas::Bool::Decides::nat_tests))]
-fn load(funct3: u32, word: u32) -> Option<Instr>
-    ensures { (funct7 : ℕ) → result ≡ instr_by LOAD funct3 funct7 word }
+fn load(funct3: u32) -> Option<Op>
+    ensures { (funct7 word : ℕ) → result ≡ op_by LOAD funct3 funct7 word }
 {
-    let op = match funct3 {
-        0b000 => Op::Lb,
-        0b001 => Op::Lh,
-        0b010 => Op::Lw,
-        0b100 => Op::Lbu,
-        0b101 => Op::Lhu,
-        _ => return None,
-    };
-    Some(split_i(op, word))
+    match funct3 {
+        0b000 => Some(Op::Lb),
+        0b001 => Some(Op::Lh),
+        0b010 => Some(Op::Lw),
+        0b100 => Some(Op::Lbu),
+        0b101 => Some(Op::Lhu),
+        _ => None,
+    }
 }
 
 #[inline]
 #[tactic(auto, using(std::proofs::lemmas::Bool::Decides::nat_tests))]
-fn store(funct3: u32, word: u32) -> Option<Instr>
-    ensures { (funct7 : ℕ) → result ≡ instr_by STORE funct3 funct7 word }
+fn store(funct3: u32) -> Option<Op>
+    ensures { (funct7 word : ℕ) → result ≡ op_by STORE funct3 funct7 word }
 {
-    let op = match funct3 {
-        0b000 => Op::Sb,
-        0b001 => Op::Sh,
-        0b010 => Op::Sw,
-        _ => return None,
-    };
-    Some(split_s(op, word))
+    match funct3 {
+        0b000 => Some(Op::Sb),
+        0b001 => Some(Op::Sh),
+        0b010 => Some(Op::Sw),
+        _ => None,
+    }
 }
 
 #[inline]
 #[tactic(auto, using(std::proofs::lemmas::Bool::Decides::nat_tests))]
-fn with_immediate(funct3: u32, funct7: u32, word: u32) -> Option<Instr>
-    ensures { result ≡ instr_by OP_IMM funct3 funct7 word }
+fn with_immediate(funct3: u32, funct7: u32) -> Option<Op>
+    ensures { (word : ℕ) → result ≡ op_by OP_IMM funct3 funct7 word }
 {
-    let op = match (funct3, funct7) {
-        (0b000, _) => Op::Addi,
-        (0b001, 0b0000000) => return Some(split_shift(Op::Slli, word)),
-        (0b010, _) => Op::Slti,
-        (0b011, _) => Op::Sltiu,
-        (0b100, _) => Op::Xori,
-        (0b101, 0b0000000) => return Some(split_shift(Op::Srli, word)),
-        (0b101, 0b0100000) => return Some(split_shift(Op::Srai, word)),
-        (0b110, _) => Op::Ori,
-        (0b111, _) => Op::Andi,
-        _ => return None,
-    };
-    Some(split_i(op, word))
+    match (funct3, funct7) {
+        (0b000, _) => Some(Op::Addi),
+        (0b001, 0b0000000) => Some(Op::Slli),
+        (0b010, _) => Some(Op::Slti),
+        (0b011, _) => Some(Op::Sltiu),
+        (0b100, _) => Some(Op::Xori),
+        (0b101, 0b0000000) => Some(Op::Srli),
+        (0b101, 0b0100000) => Some(Op::Srai),
+        (0b110, _) => Some(Op::Ori),
+        (0b111, _) => Some(Op::Andi),
+        _ => None,
+    }
 }
 
 #[inline]
 #[tactic(auto, using(std::proofs::lemmas::Bool::Decides::nat_tests))]
-fn with_register(funct3: u32, funct7: u32, word: u32) -> Option<Instr>
-    ensures { result ≡ instr_by OP funct3 funct7 word }
+fn with_register(funct3: u32, funct7: u32) -> Option<Op>
+    ensures { (word : ℕ) → result ≡ op_by OP funct3 funct7 word }
 {
-    let op = match (funct3, funct7) {
-        (0b000, 0b0000000) => Op::Add,
-        (0b000, 0b0100000) => Op::Sub,
-        (0b001, 0b0000000) => Op::Sll,
-        (0b010, 0b0000000) => Op::Slt,
-        (0b011, 0b0000000) => Op::Sltu,
-        (0b100, 0b0000000) => Op::Xor,
-        (0b101, 0b0000000) => Op::Srl,
-        (0b101, 0b0100000) => Op::Sra,
-        (0b110, 0b0000000) => Op::Or,
-        (0b111, 0b0000000) => Op::And,
-        _ => return None,
-    };
-    Some(split_r(op, word))
+    match (funct3, funct7) {
+        (0b000, 0b0000000) => Some(Op::Add),
+        (0b000, 0b0100000) => Some(Op::Sub),
+        (0b001, 0b0000000) => Some(Op::Sll),
+        (0b010, 0b0000000) => Some(Op::Slt),
+        (0b011, 0b0000000) => Some(Op::Sltu),
+        (0b100, 0b0000000) => Some(Op::Xor),
+        (0b101, 0b0000000) => Some(Op::Srl),
+        (0b101, 0b0100000) => Some(Op::Sra),
+        (0b110, 0b0000000) => Some(Op::Or),
+        (0b111, 0b0000000) => Some(Op::And),
+        _ => None,
+    }
 }

@@ -1,160 +1,169 @@
-//! A word taken apart by each format (2.2 "Base Instruction Formats", 2.3 "Immediate Encoding
-//! Variants").
+//! The fields of a word, and the word taken apart by each format (2.2 "Base Instruction Formats",
+//! 2.3 "Immediate Encoding Variants").
 
-ghost use Rattle.std.specs.Prelude.{◌≡◌, ◌^◌, ◌<◌};
-ghost use Rattle.tm_rv.specs.Table.{RType, IType, SType, BType, UType, JType, ShiftType, WordType};
-ghost use Rattle.tm_rv.specs.Instr.{sign_extend, rd_of, rs1_of, rs2_of, instr, split};
+ghost use Rattle.std.specs.Prelude.{◌≡◌, ◌<◌};
+ghost use Rattle.tm_rv.specs.Table.{RType, IType, SType, BType, UType, JType, ShiftType, row_for};
+ghost use Rattle.tm_rv.specs.Instr.{IsRegister, imm_of, rd_of, rs1_of, rs2_of, split};
 
 use crate::bits::field;
 use crate::{Instr, Op};
 
+/// The number of the register that a word writes, in the formats R, I, U and J.
 #[inline]
-pub fn split_r(op: Op, word: u32) -> Instr
-    ensures { result ≡ split RType op word }
-{
-    Instr {
-        op,
-        rd: rd(word),
-        rs1: rs1(word),
-        rs2: rs2(word),
-        imm: 0,
-    }
-}
-
-#[inline]
-pub fn split_i(op: Op, word: u32) -> Instr
-    ensures { result ≡ split IType op word }
-{
-    Instr {
-        op,
-        rd: rd(word),
-        rs1: rs1(word),
-        rs2: 0,
-        imm: extended(field(word, 31, 20), 12),
-    }
-}
-
-#[inline]
-pub fn split_s(op: Op, word: u32) -> Instr
-    ensures { result ≡ split SType op word }
-{
-    let imm = field(word, 11, 7) | field(word, 31, 25) << 5;
-    Instr {
-        op,
-        rd: 0,
-        rs1: rs1(word),
-        rs2: rs2(word),
-        imm: extended(imm, 12),
-    }
-}
-
-#[inline]
-pub fn split_b(op: Op, word: u32) -> Instr
-    ensures { result ≡ split BType op word }
-{
-    let imm = field(word, 11, 8) << 1
-        | field(word, 30, 25) << 5
-        | field(word, 7, 7) << 11
-        | field(word, 31, 31) << 12;
-    Instr {
-        op,
-        rd: 0,
-        rs1: rs1(word),
-        rs2: rs2(word),
-        imm: extended(imm, 13),
-    }
-}
-
-#[inline]
-pub fn split_u(op: Op, word: u32) -> Instr
-    ensures { result ≡ split UType op word }
-{
-    Instr {
-        op,
-        rd: rd(word),
-        rs1: 0,
-        rs2: 0,
-        imm: field(word, 31, 12) << 12,
-    }
-}
-
-#[inline]
-pub fn split_j(op: Op, word: u32) -> Instr
-    ensures { result ≡ split JType op word }
-{
-    let imm = field(word, 30, 21) << 1
-        | field(word, 20, 20) << 11
-        | field(word, 19, 12) << 12
-        | field(word, 31, 31) << 20;
-    Instr {
-        op,
-        rd: rd(word),
-        rs1: 0,
-        rs2: 0,
-        imm: extended(imm, 21),
-    }
-}
-
-/// A shift by an amount, which stands where other formats have rs2.
-#[inline]
-pub fn split_shift(op: Op, word: u32) -> Instr
-    ensures { result ≡ split ShiftType op word }
-{
-    Instr {
-        op,
-        rd: rd(word),
-        rs1: rs1(word),
-        rs2: 0,
-        imm: field(word, 24, 20),
-    }
-}
-
-/// An operation that is one word, and has no fields.
-#[inline]
-pub fn split_word(op: Op) -> Instr
-    ensures { result ≡ instr op 0 0 0 0 }
-{
-    Instr {
-        op,
-        rd: 0,
-        rs1: 0,
-        rs2: 0,
-        imm: 0,
-    }
-}
-
-#[inline]
-fn rd(word: u32) -> u8
-    ensures { result ≡ rd_of word }
+pub fn rd(word: u32) -> u8
+    ensures value { result ≡ rd_of word }
+    ensures register { IsRegister result }
 {
     field(word, 11, 7) as u8
 }
 
+/// The number of the first register that a word reads, in the formats R, I, S and B.
 #[inline]
-fn rs1(word: u32) -> u8
-    ensures { result ≡ rs1_of word }
+pub fn rs1(word: u32) -> u8
+    ensures value { result ≡ rs1_of word }
+    ensures register { IsRegister result }
 {
     field(word, 19, 15) as u8
 }
 
+/// The number of the second register that a word reads, in the formats R, S and B.
 #[inline]
-fn rs2(word: u32) -> u8
-    ensures { result ≡ rs2_of word }
+pub fn rs2(word: u32) -> u8
+    ensures value { result ≡ rs2_of word }
+    ensures register { IsRegister result }
 {
     field(word, 24, 20) as u8
 }
 
-/// A number of so many bits, of which the first is the sign, as one of 32 bits.
+/// The immediate of the format I.
 #[inline]
-fn extended(value: u32, count: u32) -> u32
-    requires some { 0 < count }
-    requires partial { count < 32 }
-    requires fits { value < 2 ^ count }
-    ensures { result ≡ sign_extend count value }
+pub fn immediate_i(word: u32) -> u32
+    ensures { result ≡ imm_of IType word }
 {
-    if value < 1 << (count - 1) {
-        value
-    } else {
-        value + (u32::MAX - ((1 << count) - 1))
+    (word.cast_signed() >> 20).cast_unsigned()
+}
+
+/// The immediate of the format S, of the stores.
+#[inline]
+pub fn immediate_s(word: u32) -> u32
+    ensures { result ≡ imm_of SType word }
+{
+    // Here and below, no two of the parts have a bit in common.
+    field(word, 11, 7) + ((word.cast_signed() >> 25).cast_unsigned() << 5)
+}
+
+/// The immediate of the format B, of the branches.
+#[inline]
+pub fn immediate_b(word: u32) -> u32
+    ensures { result ≡ imm_of BType word }
+{
+    (field(word, 11, 8) << 1)
+        + (field(word, 30, 25) << 5)
+        + (field(word, 7, 7) << 11)
+        + ((word.cast_signed() >> 31).cast_unsigned() << 12)
+}
+
+/// The immediate of the format U.
+#[inline]
+pub fn immediate_u(word: u32) -> u32
+    ensures { result ≡ imm_of UType word }
+{
+    field(word, 31, 12) << 12
+}
+
+/// The immediate of the format J.
+#[inline]
+pub fn immediate_j(word: u32) -> u32
+    ensures { result ≡ imm_of JType word }
+{
+    (field(word, 30, 21) << 1)
+        + (field(word, 20, 20) << 11)
+        + (field(word, 19, 12) << 12)
+        + ((word.cast_signed() >> 31).cast_unsigned() << 20)
+}
+
+/// The amount of a shift by an immediate, below 32. It stands where other formats have rs2.
+#[inline]
+pub fn shift_amount(word: u32) -> u32
+    ensures value { result ≡ imm_of ShiftType word }
+    ensures below { result < 32 }
+{
+    field(word, 24, 20)
+}
+
+/// The instruction of a word that asks for the operation. A field that its format lacks is 0.
+pub(crate) fn split(op: Op, word: u32) -> Instr
+    ensures { result ≡ split (row_for op).format op word }
+{
+    let none = Instr {
+        op,
+        rd: 0,
+        rs1: 0,
+        rs2: 0,
+        imm: 0,
+    };
+    match op {
+        Op::Lui | Op::Auipc => Instr {
+            rd: rd(word),
+            imm: immediate_u(word),
+            ..none
+        },
+        Op::Jal => Instr {
+            rd: rd(word),
+            imm: immediate_j(word),
+            ..none
+        },
+        Op::Beq | Op::Bne | Op::Blt | Op::Bge | Op::Bltu | Op::Bgeu => Instr {
+            rs1: rs1(word),
+            rs2: rs2(word),
+            imm: immediate_b(word),
+            ..none
+        },
+        Op::Sb | Op::Sh | Op::Sw => Instr {
+            rs1: rs1(word),
+            rs2: rs2(word),
+            imm: immediate_s(word),
+            ..none
+        },
+        Op::Slli | Op::Srli | Op::Srai => Instr {
+            rd: rd(word),
+            rs1: rs1(word),
+            imm: shift_amount(word),
+            ..none
+        },
+        Op::Add
+        | Op::Sub
+        | Op::Sll
+        | Op::Slt
+        | Op::Sltu
+        | Op::Xor
+        | Op::Srl
+        | Op::Sra
+        | Op::Or
+        | Op::And => Instr {
+            rd: rd(word),
+            rs1: rs1(word),
+            rs2: rs2(word),
+            ..none
+        },
+        Op::Ecall | Op::Ebreak => none,
+        Op::Jalr
+        | Op::Lb
+        | Op::Lh
+        | Op::Lw
+        | Op::Lbu
+        | Op::Lhu
+        | Op::Addi
+        | Op::Slti
+        | Op::Sltiu
+        | Op::Xori
+        | Op::Ori
+        | Op::Andi
+        | Op::Fence => Instr {
+            rd: rd(word),
+            rs1: rs1(word),
+            imm: immediate_i(word),
+            ..none
+        },
     }
 }

@@ -4,7 +4,8 @@
 //!
 //! [`decode`] reads a word as an [`Instr`], which names its operation, an [`Op`], and the fields
 //! that the operation's format has. [`encode`] is its inverse: each instruction whose fields are in
-//! range has exactly one word. [`name`] tells how the operation is written.
+//! range has exactly one word. [`name`] tells how the operation is written. [`operation`] tells the
+//! operation alone, and [`rd`], [`rs1`], [`rs2`] and the immediates take one field out of a word.
 //!
 //! The table is the list `rows` in `specs/Table.antt`. A word belongs to the row whose mask leaves
 //! the row's bits, and [`no_word_in_two_rows`] says that this is one row at most. The code looks at
@@ -19,8 +20,11 @@ mod instr;
 mod names;
 mod table;
 
-pub use decoder::decode;
+pub use decoder::{decode, operation};
 pub use encoder::encode;
+pub use formats::{
+    immediate_b, immediate_i, immediate_j, immediate_s, immediate_u, rd, rs1, rs2, shift_amount,
+};
 pub use instr::{Instr, Op};
 pub use names::name;
 pub use table::no_word_in_two_rows;

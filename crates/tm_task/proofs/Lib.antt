@@ -1,3 +1,4 @@
 pub mod Bytes
 pub mod Following
 pub mod Rising
+pub mod Running

@@ -7,3 +7,4 @@ pub mod Standing
 pub mod Stepped
 pub mod Place
 pub mod PlaceLaws
+pub mod RunsOn

@@ -5,9 +5,9 @@ ghost use Rattle.tm_task.specs.Exec.{exec};
 ghost use Rattle.tm_task.specs.Does.{Does};
 
 use crate::Cause;
-use crate::perform::{perform, read};
+use crate::perform::perform;
 use tm_marker::Body;
-use tm_rv::decode;
+use tm_rv::operation;
 
 /// What an instruction did to a body.
 #[derive(Clone, Copy)]
@@ -30,12 +30,9 @@ pub(crate) fn execute(body: &mut Body, text: &[u32]) -> Executed
     if index >= text.len() {
         return Executed::Faulted(Cause::Fetch);
     }
-    match decode(text[index]) {
+    let word = text[index];
+    match operation(word) {
+        Some(op) => perform(op, word, text, body),
         None => Executed::Faulted(Cause::Illegal),
-        Some(instr) => {
-            let x = read(body, instr.rs1);
-            let y = read(body, instr.rs2);
-            perform(instr.op, text, body, instr.rd, x, y, instr.imm)
-        }
     }
 }

@@ -1,73 +1,109 @@
 //! What each operation does to a body.
 
 ghost use Rattle.std.specs.Prelude.{◌≡◌, ◌+◌, ◌-◌, ◌*◌, ◌/◌, ◌%◌, ◌^◌, ◌<◌, ◌≤◌, IfOk, length, false};
-ghost use Rattle.tm_rv.specs.Instr.{sign_extend, IsRegister};
+ghost use Rattle.tm_rv.specs.Table.{IType, SType, BType, row_for};
+ghost use Rattle.tm_rv.specs.Instr.{sign_extend, IsRegister, imm_of, rd_of, rs1_of, rs2_of, split};
 ghost use Rattle.tm_task.specs.Memory.{IsSize};
-ghost use Rattle.tm_task.specs.Exec.{Goes, reg, with_reg, advanced, written, jumped, branched, fetched, loaded, stored, without_bit_0, shifted_signed, service_of, meaning};
+ghost use Rattle.tm_task.specs.Exec.{Goes, reg, with_reg, advanced, written, jumped, branched, fetched, loaded, stored, without_bit_0, shifted_signed, service_of, plus, bit, is_less, exec_instr};
 ghost use Rattle.tm_task.specs.Does.{Does};
 
 use crate::Cause;
 use crate::execute::Executed;
 use crate::memory::{data_index, is_in_data, is_in_text, part, splice};
 use tm_marker::Body;
-use tm_rv::Op;
+use tm_rv::{
+    Op, immediate_b, immediate_i, immediate_j, immediate_s, immediate_u, rd, rs1, rs2, shift_amount,
+};
 
-/// Performs an operation on a body. `x` and `y` are the values of its source registers.
+/// Performs on a body the operation that a word asks for. Each arm takes the fields that it needs
+/// out of the word, and reads its registers, by itself: so nothing is put together to be taken apart
+/// again.
 #[inline]
-pub(crate) fn perform(
-    op: Op,
-    text: &[u32],
-    body: &mut Body,
-    rd: u8,
-    x: u32,
-    y: u32,
-    imm: u32,
-) -> Executed
-    requires { IsRegister rd }
-    ensures { Does (meaning op text.now body.old rd x y imm) body.old body.new result }
+pub(crate) fn perform(op: Op, word: u32, text: &[u32], body: &mut Body) -> Executed
+    ensures { Does (exec_instr text.now body.old (split (row_for op).format op word)) body.old body.new result }
 {
     match op {
-        Op::Lui => write(body, rd, imm),
-        Op::Auipc => write(body, rd, body.pc.wrapping_add(imm)),
-        Op::Jal => jump(body, rd, body.pc.wrapping_add(imm)),
-        Op::Jalr => jump(body, rd, without_bit_0(x.wrapping_add(imm))),
-        Op::Beq => branch(body, x == y, imm),
-        Op::Bne => branch(body, x != y, imm),
-        Op::Blt => branch(body, x.cast_signed() < y.cast_signed(), imm),
-        Op::Bge => branch(body, x.cast_signed() >= y.cast_signed(), imm),
-        Op::Bltu => branch(body, x < y, imm),
-        Op::Bgeu => branch(body, x >= y, imm),
-        Op::Lb => load_byte_signed(text, body, rd, x.wrapping_add(imm)),
-        Op::Lh => load_half_signed(text, body, rd, x.wrapping_add(imm)),
-        Op::Lw => load(text, body, rd, x.wrapping_add(imm), 4),
-        Op::Lbu => load(text, body, rd, x.wrapping_add(imm), 1),
-        Op::Lhu => load(text, body, rd, x.wrapping_add(imm), 2),
-        Op::Sb => store(text, body, x.wrapping_add(imm), 1, y),
-        Op::Sh => store(text, body, x.wrapping_add(imm), 2, y),
-        Op::Sw => store(text, body, x.wrapping_add(imm), 4, y),
-        Op::Addi => write(body, rd, x.wrapping_add(imm)),
-        Op::Slti => write(body, rd, u32::from(x.cast_signed() < imm.cast_signed())),
-        Op::Sltiu => write(body, rd, u32::from(x < imm)),
-        Op::Xori => write(body, rd, x ^ imm),
-        Op::Ori => write(body, rd, x | imm),
-        Op::Andi => write(body, rd, x & imm),
-        Op::Slli => write(body, rd, x << (imm % 32)),
-        Op::Srli => write(body, rd, x >> (imm % 32)),
-        Op::Srai => write(body, rd, shift_signed(x, imm % 32)),
-        Op::Add => write(body, rd, x.wrapping_add(y)),
-        Op::Sub => write(body, rd, x.wrapping_sub(y)),
-        Op::Sll => write(body, rd, x << (y % 32)),
-        Op::Slt => write(body, rd, u32::from(x.cast_signed() < y.cast_signed())),
-        Op::Sltu => write(body, rd, u32::from(x < y)),
-        Op::Xor => write(body, rd, x ^ y),
-        Op::Srl => write(body, rd, x >> (y % 32)),
-        Op::Sra => write(body, rd, shift_signed(x, y % 32)),
-        Op::Or => write(body, rd, x | y),
-        Op::And => write(body, rd, x & y),
+        Op::Lui => write(body, word, immediate_u(word)),
+        Op::Auipc => write(body, word, body.pc.wrapping_add(immediate_u(word))),
+        Op::Jal => jump(body, rd(word), body.pc.wrapping_add(immediate_j(word))),
+        Op::Jalr => jump(body, rd(word), without_bit_0(offset(body, word))),
+        Op::Beq => branch(body, word, first(body, word) == second(body, word)),
+        Op::Bne => branch(body, word, first(body, word) != second(body, word)),
+        Op::Blt => branch(body, word, is_less(first(body, word), second(body, word))),
+        Op::Bge => branch(body, word, !is_less(first(body, word), second(body, word))),
+        Op::Bltu => branch(body, word, first(body, word) < second(body, word)),
+        Op::Bgeu => branch(body, word, !(first(body, word) < second(body, word))),
+        Op::Lb => load_byte_signed(text, body, word),
+        Op::Lh => load_half_signed(text, body, word),
+        Op::Lw => load(text, body, word, 4),
+        Op::Lbu => load(text, body, word, 1),
+        Op::Lhu => load(text, body, word, 2),
+        Op::Sb => store(text, body, word, 1),
+        Op::Sh => store(text, body, word, 2),
+        Op::Sw => store(text, body, word, 4),
+        Op::Addi => write(body, word, offset(body, word)),
+        Op::Slti => write_bit(body, word, is_less(first(body, word), immediate_i(word))),
+        Op::Sltiu => write_bit(body, word, first(body, word) < immediate_i(word)),
+        Op::Xori => write(body, word, first(body, word) ^ immediate_i(word)),
+        Op::Ori => write(body, word, first(body, word) | immediate_i(word)),
+        Op::Andi => write(body, word, first(body, word) & immediate_i(word)),
+        Op::Slli => write(body, word, first(body, word) << (shift_amount(word) % 32)),
+        Op::Srli => write(body, word, first(body, word) >> (shift_amount(word) % 32)),
+        Op::Srai => write_shifted(body, word, shift_amount(word)),
+        Op::Add => write(
+            body,
+            word,
+            first(body, word).wrapping_add(second(body, word)),
+        ),
+        Op::Sub => write(
+            body,
+            word,
+            first(body, word).wrapping_sub(second(body, word)),
+        ),
+        Op::Sll => write(body, word, first(body, word) << (second(body, word) % 32)),
+        Op::Slt => write_bit(body, word, is_less(first(body, word), second(body, word))),
+        Op::Sltu => write_bit(body, word, first(body, word) < second(body, word)),
+        Op::Xor => write(body, word, first(body, word) ^ second(body, word)),
+        Op::Srl => write(body, word, first(body, word) >> (second(body, word) % 32)),
+        Op::Sra => write_shifted(body, word, second(body, word)),
+        Op::Or => write(body, word, first(body, word) | second(body, word)),
+        Op::And => write(body, word, first(body, word) & second(body, word)),
         Op::Fence => advance(body),
         Op::Ecall => Executed::Called(service(body)),
         Op::Ebreak => Executed::Faulted(Cause::Break),
     }
+}
+
+/// The value of a word's first source register.
+#[inline]
+fn first(body: &Body, word: u32) -> u32
+    ensures { result ≡ reg body.now (rs1_of word) }
+{
+    read(body, rs1(word))
+}
+
+/// The value of a word's second source register.
+#[inline]
+fn second(body: &Body, word: u32) -> u32
+    ensures { result ≡ reg body.now (rs2_of word) }
+{
+    read(body, rs2(word))
+}
+
+/// The sum of a word's first source register and its immediate of the format I.
+#[inline]
+fn offset(body: &Body, word: u32) -> u32
+    ensures { result ≡ plus (reg body.now (rs1_of word)) (imm_of IType word) }
+{
+    first(body, word).wrapping_add(immediate_i(word))
+}
+
+/// Whether the first word is below the second, as signed numbers.
+#[inline]
+fn is_less(x: u32, y: u32) -> bool
+    ensures { result ≡ is_less x y }
+{
+    x.cast_signed() < y.cast_signed()
 }
 
 /// The value of a register.
@@ -104,17 +140,33 @@ pub(crate) fn advance(body: &mut Body) -> Executed
     Executed::Went { back: false }
 }
 
-/// Writes a register and goes to the next instruction. The program counter is read before the
-/// write, so that it needn't be read again after it.
+/// Writes a word's target register and goes to the next instruction. The program counter is read
+/// before the write, so that it needn't be read again after it.
 #[inline]
-fn write(body: &mut Body, rd: u8, value: u32) -> Executed
-    requires { IsRegister rd }
-    ensures { Does (written body.old rd value) body.old body.new result }
+fn write(body: &mut Body, word: u32, value: u32) -> Executed
+    ensures { Does (written body.old (rd_of word) value) body.old body.new result }
 {
     let next = body.pc.wrapping_add(4);
-    put(body, rd, value);
+    put(body, rd(word), value);
     body.pc = next;
     Executed::Went { back: false }
+}
+
+/// Writes 1 where a test holds, else 0.
+#[inline]
+fn write_bit(body: &mut Body, word: u32, test: bool) -> Executed
+    ensures { Does (written body.old (rd_of word) (bit test)) body.old body.new result }
+{
+    write(body, word, u32::from(test))
+}
+
+/// Writes the first source register, shifted to the right by so many places modulo 32 with its sign
+/// from the left.
+#[inline]
+fn write_shifted(body: &mut Body, word: u32, places: u32) -> Executed
+    ensures { Does (written body.old (rd_of word) (shifted_signed (reg body.old (rs1_of word)) (places % 32))) body.old body.new result }
+{
+    write(body, word, shift_signed(first(body, word), places % 32))
 }
 
 #[inline]
@@ -132,11 +184,11 @@ fn jump(body: &mut Body, rd: u8, target: u32) -> Executed
 }
 
 #[inline]
-fn branch(body: &mut Body, taken: bool, imm: u32) -> Executed
-    ensures { Does (branched body.old taken imm) body.old body.new result }
+fn branch(body: &mut Body, word: u32, taken: bool) -> Executed
+    ensures { Does (branched body.old taken (imm_of BType word)) body.old body.new result }
 {
     if taken {
-        jump(body, 0, body.pc.wrapping_add(imm))
+        jump(body, 0, body.pc.wrapping_add(immediate_b(word)))
     } else {
         advance(body)
     }
@@ -163,46 +215,45 @@ fn fetch(text: &[u32], body: &Body, address: u32, size: u32) -> Result<u32, Caus
 }
 
 #[inline]
-fn load(text: &[u32], body: &mut Body, rd: u8, address: u32, size: u32) -> Executed
-    requires register { IsRegister rd }
-    requires size { IsSize size }
-    ensures { Does (loaded text.now body.old rd address size (λ value. value)) body.old body.new result }
-{
-    match fetch(text, body, address, size) {
-        Ok(value) => write(body, rd, value),
-        Err(cause) => Executed::Faulted(cause),
-    }
-}
-
-#[inline]
-fn load_byte_signed(text: &[u32], body: &mut Body, rd: u8, address: u32) -> Executed
-    requires register { IsRegister rd }
-    ensures { Does (loaded text.now body.old rd address 1 (sign_extend 8)) body.old body.new result }
-{
-    match fetch(text, body, address, 1) {
-        Ok(value) if value < 0x80 => write(body, rd, value),
-        Ok(value) => write(body, rd, value + 0xffff_ff00),
-        Err(cause) => Executed::Faulted(cause),
-    }
-}
-
-#[inline]
-fn load_half_signed(text: &[u32], body: &mut Body, rd: u8, address: u32) -> Executed
-    requires register { IsRegister rd }
-    ensures { Does (loaded text.now body.old rd address 2 (sign_extend 16)) body.old body.new result }
-{
-    match fetch(text, body, address, 2) {
-        Ok(value) if value < 0x8000 => write(body, rd, value),
-        Ok(value) => write(body, rd, value + 0xffff_0000),
-        Err(cause) => Executed::Faulted(cause),
-    }
-}
-
-#[inline]
-fn store(text: &[u32], body: &mut Body, address: u32, size: u32, value: u32) -> Executed
+fn load(text: &[u32], body: &mut Body, word: u32, size: u32) -> Executed
     requires { IsSize size }
-    ensures { Does (stored text.now body.old address size value) body.old body.new result }
+    ensures { Does (loaded text.now body.old (rd_of word) (plus (reg body.old (rs1_of word)) (imm_of IType word)) size (λ value. value)) body.old body.new result }
 {
+    match fetch(text, body, offset(body, word), size) {
+        Ok(value) => write(body, word, value),
+        Err(cause) => Executed::Faulted(cause),
+    }
+}
+
+#[inline]
+fn load_byte_signed(text: &[u32], body: &mut Body, word: u32) -> Executed
+    ensures { Does (loaded text.now body.old (rd_of word) (plus (reg body.old (rs1_of word)) (imm_of IType word)) 1 (sign_extend 8)) body.old body.new result }
+{
+    match fetch(text, body, offset(body, word), 1) {
+        Ok(value) if value < 0x80 => write(body, word, value),
+        Ok(value) => write(body, word, value + 0xffff_ff00),
+        Err(cause) => Executed::Faulted(cause),
+    }
+}
+
+#[inline]
+fn load_half_signed(text: &[u32], body: &mut Body, word: u32) -> Executed
+    ensures { Does (loaded text.now body.old (rd_of word) (plus (reg body.old (rs1_of word)) (imm_of IType word)) 2 (sign_extend 16)) body.old body.new result }
+{
+    match fetch(text, body, offset(body, word), 2) {
+        Ok(value) if value < 0x8000 => write(body, word, value),
+        Ok(value) => write(body, word, value + 0xffff_0000),
+        Err(cause) => Executed::Faulted(cause),
+    }
+}
+
+#[inline]
+fn store(text: &[u32], body: &mut Body, word: u32, size: u32) -> Executed
+    requires { IsSize size }
+    ensures { Does (stored text.now body.old (plus (reg body.old (rs1_of word)) (imm_of SType word)) size (reg body.old (rs2_of word))) body.old body.new result }
+{
+    let address = first(body, word).wrapping_add(immediate_s(word));
+    let value = second(body, word);
     if address % size != 0 {
         return Executed::Faulted(Cause::Unaligned);
     }
@@ -213,9 +264,9 @@ fn store(text: &[u32], body: &mut Body, address: u32, size: u32, value: u32) -> 
         return Executed::Faulted(Cause::Range);
     }
     let index = data_index(address);
-    let word = splice(body.words.at(index), address % 4, size, value);
+    let spliced = splice(body.words.at(index), address % 4, size, value);
     let next = body.pc.wrapping_add(4);
-    body.words.set(index, word);
+    body.words.set(index, spliced);
     body.pc = next;
     Executed::Went { back: false }
 }

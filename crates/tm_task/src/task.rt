@@ -1,8 +1,9 @@
 //! A task: where its text is entered, and where it stands.
 
-ghost use Rattle.std.specs.Prelude.{◌≡◌, ◌+◌, ◌%◌, ◌^◌, ◌<◌, ◌≤◌, IfOk, length};
+ghost use Rattle.std.specs.Prelude.{◌≡◌, ◌+◌, ◌%◌, ◌^◌, ◌<◌, ◌≤◌, IfOk, MatchBool, length};
 ghost use Rattle.tm_task.specs.Standing.{booted_task, answered, args_of, marker_of, IsTask};
-ghost use Rattle.tm_task.specs.Stepped.{Did, Raises};
+ghost use Rattle.tm_task.specs.Stepped.{Did, DidRun, Raises};
+ghost use Rattle.tm_task.specs.RunsOn.{RunsOn, HasStopped, Stays};
 ghost use Rattle.tm_marker.specs.Order.{IsBefore};
 
 use crate::Stepped;
@@ -89,6 +90,31 @@ impl Task {
         }
     }
 
+    /// Executes up to `most` instructions of the text, which has 1 to 16,384 words, and tells how
+    /// many: it stops before one that calls or faults, and where the next backward transfer would
+    /// begin an epoch, so that [`Task::step`] does those. The call takes no memory.
+    #[inline]
+    pub fn advance(&mut self, text: &[u32], most: u32) -> u32
+        requires some { 0 < length text.now }
+        requires few { length text.now ≤ 16384 }
+        requires epoch { self.old.standing.epoch < 2 ^ 53 }
+        ensures within { result ≤ most }
+        ensures ran { RunsOn text.now result self.old self.new }
+        ensures stopped { result < most → HasStopped text.now self.new }
+        ensures epoch { self.new.standing.epoch ≡ self.old.standing.epoch }
+        ensures words { length self.new.standing.body.words ≡ length self.old.standing.body.words }
+        ensures task { IsTask self.new }
+    {
+        // A task keeps what every task does: known from here on.
+        let _ = &self.count;
+        for done in 0..most {
+            if !self.runs(text) {
+                return done;
+            }
+        }
+        most
+    }
+
     /// What a call hands to its service: the registers a0 to a5.
     pub fn args(&self) -> [u32; 6]
         ensures { result ≡ args_of self.now.standing.body }
@@ -140,4 +166,68 @@ impl Task {
             self.count = 0;
         }
     }
+
+    /// Puts the task where a body of as many data words stands, at the start of an epoch.
+    pub fn load(&mut self, body: &Body, epoch: u64)
+        requires words { length body.now.words ≡ length self.old.standing.body.words }
+        requires pc { body.now.pc % 4 ≡ 0 }
+        ensures loaded { self.new
+            ≡ record self.old { standing = record { body = body.now; epoch = epoch; count = 0 } } }
+        ensures task { IsTask self.new }
+    {
+        copy_body(&mut self.body, body);
+        self.epoch = epoch;
+        self.count = 0;
+    }
+
+    /// Makes the task another of as many data words.
+    pub fn copy_from(&mut self, other: &Task)
+        requires { length other.now.standing.body.words ≡ length self.old.standing.body.words }
+        ensures copied { self.new ≡ other.now }
+        ensures task { IsTask self.new }
+    {
+        self.entry = other.entry;
+        copy_body(&mut self.body, &other.body);
+        self.epoch = other.epoch;
+        self.count = other.count;
+    }
+}
+
+impl Task {
+    /// Executes one instruction, if it neither calls nor faults, and a backward transfer would begin
+    /// no epoch; tells whether it did.
+    #[inline]
+    #[tactic(auto, using(crate::proofs::Following::goes_on))]
+    fn runs(&mut self, text: &[u32]) -> bool
+        requires { length text.now ≤ 16384 }
+        ensures ran { MatchBool result (DidRun text.now self.old self.new) (Stays text.now self.old self.new) }
+        ensures words { length self.new.standing.body.words ≡ length self.old.standing.body.words }
+        ensures task { IsTask self.new }
+    {
+        if self.count == EPOCH_LENGTH - 1 {
+            return false;
+        }
+        match execute(&mut self.body, text) {
+            Executed::Went { back } => {
+                if back {
+                    self.count += 1;
+                }
+                true
+            }
+            Executed::Called(_) | Executed::Faulted(_) => false,
+        }
+    }
+}
+
+/// Puts a body in the place of another that has as many data words.
+fn copy_body(to: &mut Body, from: &Body)
+    requires { length to.old.words ≡ length from.now.words }
+    ensures copied { to.new ≡ from.now }
+    ensures registers { length to.new.regs ≡ 31 }
+    ensures pc { to.new.pc < 2 ^ 32 }
+{
+    let Body { pc, regs, words } = from;
+    to.pc = *pc;
+    to.regs.copy_from_slice(regs);
+    to.words.copy_from_slice(words.as_slice());
 }

@@ -202,6 +202,61 @@ fn an_epoch_ends_at_its_last_count(rt: HostRuntime) -> Result<(), Fail> {
     Ok(())
 }
 
+/// Several instructions stop before a call, before a fault, and where an epoch is about to end.
+#[test]
+fn goes_on_as_far_as_it_may(rt: HostRuntime) -> Result<(), Fail> {
+    // addi a7, x0, 7; addi a0, a0, 1; ecall; jal x0, -8
+    let text = [0x0070_0893, 0x0015_0513, 0x0000_0073, 0xff9f_f06f];
+    let mut task = Task::new(rt.alloc(), 0, &WORDS)?;
+    assert_eq!(rt; task.advance(&text, 1), 1);
+    assert_eq!(rt; task.advance(&text, 0), 0);
+    assert_eq!(rt; task.advance(&text, 9), 1);
+    assert_eq!(rt; task.marker().pc, 8);
+    assert_eq!(rt; task.advance(&text, 9), 0);
+    assert_eq!(rt; task.step(&text), Stepped::Call(7));
+
+    // fence, and nothing after it
+    let mut task = Task::new(rt.alloc(), 0, &WORDS)?;
+    assert_eq!(rt; task.advance(&[0x0000_000f], 9), 1);
+    assert_eq!(rt; task.step(&[0x0000_000f]), Stepped::Fault(Cause::Fetch));
+
+    // jal x0, 0
+    let mut task = Task::new(rt.alloc(), 0, &WORDS)?;
+    assert_eq!(rt; task.advance(&[0x0000_006f], 2_000_000), 1_048_575);
+    assert_eq!(rt; task.step(&[0x0000_006f]), Stepped::Forced);
+    assert_eq!(rt; task.advance(&[0x0000_006f], 3), 3);
+    assert_eq!(rt; task.marker().count, 3);
+    Ok(())
+}
+
+/// A task becomes another, and stands where a body is put.
+#[test]
+fn becomes_another(rt: HostRuntime) -> Result<(), Fail> {
+    // addi a0, x0, 5; sw a0, 4(x5); jal x0, 0
+    let text = [0x0050_0513, 0x00a2_a223, 0x0000_006f];
+    let mut task = Task::new(rt.alloc(), 0, &WORDS)?;
+    assert_eq!(rt; task.advance(&text, 1), 1);
+    let mut other = Task::new(rt.alloc(), 8, &WORDS)?;
+    assert_eq!(rt; other.advance(&text, 2), 2);
+
+    assert!(rt; other.body().words.len() == task.body().words.len());
+    other.copy_from(&task);
+    assert_eq!(rt; other.marker(), task.marker());
+    assert_eq!(rt; other.body().regs, task.body().regs);
+
+    let body = tm_marker::Body::new(rt.alloc(), 4)?;
+    assert!(rt; body.words.len() == task.body().words.len());
+    task.load(&body, 9);
+    let start = Marker {
+        epoch: 9,
+        count: 0,
+        pc: 0,
+    };
+    assert_eq!(rt; task.marker(), start);
+    assert_eq!(rt; task.body().words.as_slice(), [0; 4].as_slice());
+    Ok(())
+}
+
 /// Which answers begin an epoch, and which start the task anew.
 #[test]
 fn answers(rt: HostRuntime) -> Result<(), Fail> {
