@@ -1,11 +1,13 @@
--- The small form of a plan.
-use Rattle.std.specs.Prelude.{◌≡◌, ℕ, ◌<◌, ◌≤◌, List, [], ◌∷◌, ◌++◌, length, nat_le, ◌&&◌, codes, if◌then◌else◌, Option, Some, None}
-use Rattle.std.specs.Bool.{then_some}
+-- What a plan is, and how it is written.
+use Rattle.std.specs.Prelude.{◌≡◌, ℕ, ◌<◌, ◌≤◌, false, ◌||◌, List, [], ◌∷◌, ◌++◌, length, nat_lt, codes, if◌then◌else◌, Result, Ok, Err}
 use Rattle.std.specs.Str.{bytes_eq}
 use Rattle.tm_marker.specs.declared.entries.Slice.{Slice}
-use Rattle.tm_image.specs.Steps.{◌>>=◌}
-use Rattle.tm_image.specs.Lines.{body_of, lines_on}
-use Rattle.tm_image.specs.Numbers.{number_in, mask_in}
+use Rattle.tm_image.specs.declared.fault.Reason.{Reason}
+use Rattle.tm_image.specs.declared.fault.Reason.TheVariants.{Form}
+use Rattle.tm_image.specs.declared.fault.Fault.{Fault}
+use Rattle.tm_image.specs.Steps.{◌>>=◌, tested}
+use Rattle.tm_image.specs.Lines.{pieces, from_header, lines_on}
+use Rattle.tm_image.specs.Numbers.{number_in}
 
 -- a slice runs at most 1,048,576 instructions, after an arrival of some of 16 lines with four port words
 pub record IsSlice (slice : Slice) : Type 0 where
@@ -13,26 +15,43 @@ pub record IsSlice (slice : Slice) : Type 0 where
   pub lines : slice.mask < 65536
   pub ports : length slice.ports ≡ 4
 
--- what `slice LENGTH MASK` says; the port words are 0
-abbrev pub slice_in : List (List ℕ) → Option Slice
-slice_in (first ∷ second ∷ []) = do
-  count ← number_in first
-  lines ← mask_in second
-  Some (record { length = count; mask = lines; ports = 0 ∷ 0 ∷ 0 ∷ 0 ∷ [] })
-slice_in _ = None
+-- the four port words, which are 0 where none is given
+abbrev pub ports_in : List (List ℕ) → Result (List ℕ) Reason
+ports_in [] = Ok (0 ∷ 0 ∷ 0 ∷ 0 ∷ [])
+ports_in (port0 ∷ port1 ∷ port2 ∷ port3 ∷ []) = do
+  p0 ← number_in port0
+  p1 ← number_in port1
+  p2 ← number_in port2
+  p3 ← number_in port3
+  Ok (p0 ∷ p1 ∷ p2 ∷ p3 ∷ [])
+ports_in _ = Err Form
 
--- the slices with one more at the end, which runs at most 1,048,576 instructions and names some of 16 lines
-abbrev pub new_slice : List Slice → Slice → Option (List Slice)
-new_slice slices slice = then_some (nat_le slice.length 1048576 && nat_le slice.mask 65535) (slices ++ slice ∷ [])
+-- what `slice LENGTH MASK` and `slice LENGTH MASK P0 P1 P2 P3` say
+abbrev pub slice_in : List (List ℕ) → Result Slice Reason
+slice_in (first ∷ second ∷ rest) = do
+  words ← ports_in rest
+  count ← number_in first
+  lines ← number_in second
+  Ok (record { length = count; mask = lines; ports = words })
+slice_in _ = Err Form
+
+-- the slices with one more at the end
+abbrev pub new_slice : List Slice → Slice → Result (List Slice) Reason
+new_slice slices slice = tested
+    (nat_lt 1048576 slice.length || nat_lt 65535 slice.mask)
+    false
+    false
+    (slices ++ slice ∷ [])
 
 -- a line of a plan
-abbrev pub plan_line : List Slice → List (List ℕ) → Option (List Slice)
-plan_line slices [] = None
+abbrev pub plan_line : List Slice → List (List ℕ) → Result (List Slice) Reason
+plan_line slices [] = Err Form
 plan_line slices (keyword ∷ words) =
-    if bytes_eq keyword (codes "slice") then slice_in words >>= new_slice slices else None
+    if bytes_eq keyword (codes "slice") then slice_in words >>= new_slice slices else Err Form
 
--- the slices of a plan: the header `tmplan 1`, and one line for each slice
-unfoldable pub plan_of : List ℕ → Option (List Slice)
+-- the slices of a plan, or the first fault: the header `tmplan 1`, and one line for each slice
+unfoldable pub plan_of : List ℕ → Result (List Slice) Fault
 plan_of bytes = do
-  body ← body_of (codes "tmplan 1") bytes
-  lines_on plan_line [] body
+  body ← from_header (codes "tmplan") 1 (pieces bytes)
+  last ← lines_on plan_line body.0 [] body.1
+  Ok last.1

@@ -1,66 +1,74 @@
 //! Small whole files, and what the definitions make of them: theorems that guard the definitions.
 
-ghost use Rattle.std.specs.Prelude.{◌≡◌, [], ◌∷◌, ◌++◌, Option, option_map, Some, None, codes};
-ghost use Rattle.std.specs.Prelude.{replicate, true, false};
-ghost use Rattle.tm_kernel.specs.declared.spec.Action.TheVariants.{Nothing, Activate};
-ghost use Rattle.tm_image.specs.Image.{ImageView, image_of};
+ghost use Rattle.std.specs.Prelude.{◌≡◌, [], ◌∷◌, ◌++◌, true, false, codes, replicate};
+ghost use Rattle.tm_kernel.specs.declared.spec.Action.TheVariants.{Nothing, Tick, Activate, Event};
+ghost use Rattle.tm_image.specs.declared.fault.Reason.{Reason};
+ghost use Rattle.tm_image.specs.Image.{image_digest, image_of};
 ghost use Rattle.tm_image.specs.Plan.{plan_of};
+ghost use Rattle.tm_image.specs.Examples.{one_task};
 
-/// What some plans say, and some texts that are no plans of the small form.
-#[tactic(auto, unfolding(crate::specs::Plan::plan_of))]
+/// What some plans say.
+#[tactic(auto, unfolding(crate::specs::Plan::plan_of, crate::specs::Numbers::number_in))]
 pub fn plan_examples()
-    ensures slices { plan_of (codes "tmplan 1\nslice 5 0\nslice 1048576 0x1f\n")
-        ≡ Some (record { length = 5; mask = 0; ports = 0 ∷ 0 ∷ 0 ∷ 0 ∷ [] } ∷ record { length = 1048576; mask = 31; ports = 0 ∷ 0 ∷ 0 ∷ 0 ∷ [] } ∷ []) }
-    ensures none { plan_of (codes "tmplan 1\n") ≡ Some [] }
-    ensures empty { plan_of [] ≡ None }
-    ensures other_header { plan_of (codes "tmplan 2\n") ≡ None }
-    ensures last_end_missing { plan_of (codes "tmplan 1\nslice 5 0") ≡ None }
-    ensures empty_line { plan_of (codes "tmplan 1\n\nslice 5 0\n") ≡ None }
-    ensures two_spaces { plan_of (codes "tmplan 1\nslice 5  0\n") ≡ None }
-    ensures last_space { plan_of (codes "tmplan 1\nslice 5 0 \n") ≡ None }
-    ensures leading_zero { plan_of (codes "tmplan 1\nslice 05 0\n") ≡ None }
-    ensures too_long { plan_of (codes "tmplan 1\nslice 1048577 0\n") ≡ None }
-    ensures upper_case { plan_of (codes "tmplan 1\nslice 5 0xA\n") ≡ None }
-    ensures five_digits { plan_of (codes "tmplan 1\nslice 5 0x00000\n") ≡ None }
-    ensures decimal_mask { plan_of (codes "tmplan 1\nslice 5 3\n") ≡ None }
+    ensures slices { plan_of (codes "tmplan 1\nslice 5 0\nslice 1048576 0x1f 1 02 3 0xFfffffff\n")
+        ≡ Ok (record { length = 5; mask = 0; ports = 0 ∷ 0 ∷ 0 ∷ 0 ∷ [] } ∷ record { length = 1048576; mask = 31; ports = 1 ∷ 2 ∷ 3 ∷ 4294967295 ∷ [] } ∷ []) }
+    ensures none { plan_of (codes "tmplan 1") ≡ Ok [] }
+    ensures skipped { plan_of (codes "\n # a note\r\n\ttmplan\t1 \r\n\r") ≡ Ok [] }
+    ensures empty { plan_of [] ≡ Err (record { line = 1; reason = Reason.Missing }) }
+    ensures no_header { plan_of (codes "\n# a note\n") ≡ Err (record { line = 3; reason = Reason.Missing }) }
+    ensures other_header { plan_of (codes "\ntmplan 01\n") ≡ Err (record { line = 2; reason = Reason.Form }) }
+    ensures header_alone { plan_of (codes "tmplan 1\ntmplan 1\n") ≡ Err (record { line = 2; reason = Reason.Form }) }
+    ensures three_ports { plan_of (codes "tmplan 1\nslice 5 0 1 2 3\n") ≡ Err (record { line = 2; reason = Reason.Form }) }
+    ensures too_long { plan_of (codes "tmplan 1\nslice 1048577 0\n") ≡ Err (record { line = 2; reason = Reason.Range }) }
+    ensures mask_of_17 { plan_of (codes "tmplan 1\nslice 5 65536\n") ≡ Err (record { line = 2; reason = Reason.Range }) }
+    ensures upper_prefix { plan_of (codes "tmplan 1\nslice 5 0X2\n") ≡ Err (record { line = 2; reason = Reason.Number }) }
+    ensures eleven_digits { plan_of (codes "tmplan 1\nslice 00000000005 0\n") ≡ Err (record { line = 2; reason = Reason.Number }) }
+    ensures two_to_32 { plan_of (codes "tmplan 1\nslice 4294967296 0\n") ≡ Err (record { line = 2; reason = Reason.Number }) }
+    ensures number_first { plan_of (codes "tmplan 1\nslice 1048577 x\n") ≡ Err (record { line = 2; reason = Reason.Number }) }
+    ensures return_inside { plan_of (13 ∷ 10 ∷ codes "tmplan 1\nslice 5\r 0\n") ≡ Err (record { line = 3; reason = Reason.Form }) }
 {}
 
-/// What two images say, and some texts that are no images of the small form.
-#[tactic(auto, unfolding(crate::specs::Image::image_of))]
+/// What an image says, and why some texts are none.
+#[tactic(auto, unfolding(crate::specs::Image::image_of, crate::specs::Image::draft_of, crate::specs::Numbers::number_in, crate::specs::Numbers::word_in))]
 pub fn image_examples()
-    ensures one_task { image_of (codes "tmi 1\ntask 0 basic 255 auto 4 2\ntext 0 00200893 0000007f\n")
-        ≡ Some (record {
+    ensures all_keywords { let text = codes "tmi 1\ntask 0 extended 9 auto 4 3\ntext 0 00000013 0000006F\ntext 0 ffffffff\ndata 0 1 00000007 00000008\ndata 0 2 00000009\ntask 1 basic 1 off 0 1\ntext 1 00000073\nresource 0 0 1\nalarm 0 event 0 3\nalarm 1 activate 1\nbox 0 64\nline 3 tick\nline 15 activate 1\nring data 65536\nring checks 64\n" in
+        image_of text ≡ Ok (record {
+          digest = image_digest text;
           spec = record {
-            tasks = record { extended = false; priority = 255; auto = true } ∷ [];
-            users = [];
-            alarms = [];
-            boxes = [];
-            lines = replicate 16 Nothing;
+            tasks = record { extended = true; priority = 9; auto = true } ∷ record { extended = false; priority = 1; auto = false } ∷ [];
+            users = 3 ∷ [];
+            alarms = Event 0 3 ∷ Activate 1 ∷ [];
+            boxes = 64 ∷ [];
+            lines = replicate 3 Nothing ++ Tick ∷ replicate 11 Nothing ++ Activate 1 ∷ [];
           };
-          loads = record { entry = 4; text = 2099347 ∷ 127 ∷ []; words = 0 ∷ 0 ∷ [] } ∷ [];
+          loads =
+              record { entry = 4; text = 19 ∷ 111 ∷ 4294967295 ∷ []; words = 0 ∷ 7 ∷ 9 ∷ [] }
+              ∷ record { entry = 0; text = 115 ∷ []; words = 0 ∷ [] } ∷ [];
+          caps = record { control = 256; logs = 65536; outputs = 256; checks = 64 };
         }) }
-    ensures lines { option_map (λ image. image.spec.lines)
-        (image_of (codes "tmi 1\ntask 0 basic 1 off 0 1\ntext 0 00000013\nline 1 activate 0\nline 15 activate 0\n"))
-        ≡ Some (Nothing ∷ Activate 0 ∷ replicate 13 Nothing ++ Activate 0 ∷ []) }
-    ensures empty { image_of [] ≡ None }
-    ensures no_task { image_of (codes "tmi 1\n") ≡ None }
-    ensures no_text { image_of (codes "tmi 1\ntask 0 basic 1 auto 0 1\n") ≡ None }
-    ensures last_end_missing { image_of (codes "tmi 1\ntask 0 basic 1 auto 0 1\ntext 0 00200893") ≡ None }
-    ensures two_spaces { image_of (codes "tmi 1\ntask 0 basic 1 auto  0 1\ntext 0 00200893\n") ≡ None }
-    ensures leading_zero { image_of (codes "tmi 1\ntask 0 basic 01 auto 0 1\ntext 0 00200893\n") ≡ None }
-    ensures priority_zero { image_of (codes "tmi 1\ntask 0 basic 0 auto 0 1\ntext 0 00200893\n") ≡ None }
-    ensures repeated_priority { image_of (codes "tmi 1\ntask 0 basic 1 auto 0 1\ntext 0 00200893\ntask 1 basic 1 auto 0 1\ntext 1 00200893\n") ≡ None }
-    ensures other_number { image_of (codes "tmi 1\ntask 1 basic 1 auto 0 1\ntext 1 00200893\n") ≡ None }
-    ensures no_words { image_of (codes "tmi 1\ntask 0 basic 1 auto 0 0\ntext 0 00200893\n") ≡ None }
-    ensures entry_outside { image_of (codes "tmi 1\ntask 0 basic 1 auto 4 1\ntext 0 00200893\n") ≡ None }
-    ensures entry_between { image_of (codes "tmi 1\ntask 0 basic 1 auto 2 1\ntext 0 00200893\n") ≡ None }
-    ensures upper_case { image_of (codes "tmi 1\ntask 0 basic 1 auto 0 1\ntext 0 0000006F\n") ≡ None }
-    ensures seven_digits { image_of (codes "tmi 1\ntask 0 basic 1 auto 0 1\ntext 0 0200893\n") ≡ None }
-    ensures second_text { image_of (codes "tmi 1\ntask 0 basic 1 auto 0 1\ntext 0 00200893\ntext 0 00200893\n") ≡ None }
-    ensures lines_fall { image_of (codes "tmi 1\ntask 0 basic 1 off 0 1\ntext 0 00000013\nline 2 activate 0\nline 1 activate 0\n") ≡ None }
-    ensures line_twice { image_of (codes "tmi 1\ntask 0 basic 1 off 0 1\ntext 0 00000013\nline 2 activate 0\nline 2 activate 0\n") ≡ None }
-    ensures line_sixteen { image_of (codes "tmi 1\ntask 0 basic 1 off 0 1\ntext 0 00000013\nline 16 activate 0\n") ≡ None }
-    ensures line_of_no_task { image_of (codes "tmi 1\ntask 0 basic 1 off 0 1\ntext 0 00000013\nline 1 activate 1\n") ≡ None }
-    ensures task_after_line { image_of (codes "tmi 1\ntask 0 basic 1 off 0 1\ntext 0 00000013\nline 1 activate 0\ntask 1 basic 2 off 0 1\ntext 1 00000013\n")
-        ≡ None }
+    ensures no_task { image_of (codes "tmi 1\n") ≡ Err (record { line = 2; reason = Reason.Missing }) }
+    ensures no_text { image_of (codes "tmi 1\ntask 0 basic 1 auto 0 1") ≡ Err (record { line = 3; reason = Reason.Missing }) }
+    ensures other_header { image_of (codes "tmi 2\n") ≡ Err (record { line = 1; reason = Reason.Form }) }
+    ensures entry_outside { image_of (codes "tmi 1\ntask 0 basic 1 auto 4 1\ntext 0 00000013") ≡ Err (record { line = 4; reason = Reason.Range }) }
+    ensures text_wanted_first { image_of (codes "tmi 1\ntask 0 basic 1 auto 4 1\ntext 0 00000013\ntask 1 basic 2 auto 0 1\n") ≡ Err (record { line = 5; reason = Reason.Missing }) }
+    ensures priority_zero { image_of (codes "tmi 1\ntask 0 basic 0 auto 0 1\n") ≡ Err (record { line = 2; reason = Reason.Range }) }
+    ensures priority_number { image_of (codes "tmi 1\ntask 0 basic 0x auto 2 1\n") ≡ Err (record { line = 2; reason = Reason.Number }) }
+    ensures number_skipped { image_of (codes "tmi 1\ntask 1 basic 1 auto 0 1\n") ≡ Err (record { line = 2; reason = Reason.Range }) }
+    ensures entry_unaligned { image_of (codes "tmi 1\ntask 0 basic 1 auto 2 1\n") ≡ Err (record { line = 2; reason = Reason.Range }) }
+    ensures no_words { image_of (codes "tmi 1\ntask 0 basic 1 auto 0 0\n") ≡ Err (record { line = 2; reason = Reason.Range }) }
+    ensures repeated_priority { image_of (one_task ++ codes "task 1 basic 1 auto 0 1\n") ≡ Err (record { line = 4; reason = Reason.Repeated }) }
+    ensures repeated_number { image_of (one_task ++ codes "task 0 basic 2 auto 0 1\n") ≡ Err (record { line = 4; reason = Reason.Repeated }) }
+    ensures seven_digits { image_of (one_task ++ codes "text 0 0000013\n") ≡ Err (record { line = 4; reason = Reason.Number }) }
+    ensures past_the_words { image_of (one_task ++ codes "data 0 1 00000001\n") ≡ Err (record { line = 4; reason = Reason.Range }) }
+    ensures no_data { image_of (one_task ++ codes "data 0 0\n") ≡ Err (record { line = 4; reason = Reason.Form }) }
+    ensures user_twice { image_of (one_task ++ codes "resource 0 0 0\n") ≡ Err (record { line = 4; reason = Reason.Repeated }) }
+    ensures no_such_user { image_of (one_task ++ codes "resource 0 0 0 1\n") ≡ Err (record { line = 4; reason = Reason.Range }) }
+    ensures alarm_that_ticks { image_of (one_task ++ codes "alarm 0 tick\n") ≡ Err (record { line = 4; reason = Reason.Form }) }
+    ensures large_box { image_of (one_task ++ codes "box 0 65\n") ≡ Err (record { line = 4; reason = Reason.Range }) }
+    ensures line_sixteen { image_of (one_task ++ codes "line 16 tick\n") ≡ Err (record { line = 4; reason = Reason.Range }) }
+    ensures line_twice { image_of (one_task ++ codes "line 3 tick\nline 3 activate 0\n") ≡ Err (record { line = 5; reason = Reason.Repeated }) }
+    ensures line_without_action { image_of (one_task ++ codes "line 3\n") ≡ Err (record { line = 4; reason = Reason.Form }) }
+    ensures many_checks { image_of (one_task ++ codes "ring checks 65\n") ≡ Err (record { line = 4; reason = Reason.Range }) }
+    ensures ring_twice { image_of (one_task ++ codes "ring data 1\nring data 2\n") ≡ Err (record { line = 5; reason = Reason.Repeated }) }
+    ensures no_such_ring { image_of (one_task ++ codes "ring log 1\n") ≡ Err (record { line = 4; reason = Reason.Form }) }
 {}

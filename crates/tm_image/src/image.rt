@@ -1,30 +1,40 @@
 //! An image: what a kernel is made of, and what each of its tasks is loaded from.
 
-ghost use Rattle.std.specs.Prelude.{◌≡◌, ◌<◌, ◌≤◌, length, IfOk, Option, Some, None};
-ghost use Rattle.tm_image.specs.Image.{load_of, entry_of, text_of, words_of, IsLoad, IsImage, image_of};
+ghost use Rattle.std.specs.Prelude.{◌≡◌, ◌<◌, ◌≤◌, ◌-◌, ◌^◌, length, IfOk};
+ghost use Rattle.tm_marker.specs.Shape.{IsShape};
+ghost use Rattle.tm_image.specs.Steps.{Gives};
+ghost use Rattle.tm_image.specs.Draft.{Draft};
+ghost use Rattle.tm_image.specs.Image.{load_of, entry_of, text_of, words_of, shape_of, IsLoad, IsImage, image_digest, draft_of, image_of};
 
-use crate::Unread;
-use crate::lines::{take_lines, text_below};
-use crate::reading::Reading;
+use crate::draft::Reading;
+use crate::lines::{below_header, take_lines};
+use crate::{Fault, ImageFault};
+use sha2::{Digest, Sha256};
 use std::alloc::Global;
 use std::marker::Model;
 use tm_kernel::KernelSpec;
+use tm_marker::Shape;
 
 /// What a machine of 1 to 16 tasks is made of. The tasks are numbered from 0 in the order of the
-/// file; each has 1 to 16,384 words of text and of data, and an entry inside its text.
+/// file; each has 1 to 16,384 words of text and of data, and an entry inside its text. With it go the
+/// digest of the file and the capacities of a recorder's buffers.
 #[derive(Debug, Drop)]
 pub struct Image {
     parts: Reading,
+    shape: Shape,
 }
 
 impl Model for Image {
-    ghost use Rattle.tm_image.specs.Image.{ImageView, IsImage};
+    ghost use Rattle.std.specs.Prelude.{◌≡◌, length, map};
+    ghost use Rattle.tm_image.specs.Image.{ImageView, IsImage, shaped};
 
     ghost Value = { ImageView };
 
-    ghost view = { λ image. image.parts };
+    ghost view = { λ image. shaped image.parts image.shape };
 
-    ghost invariant = { λ image. IsImage image.parts };
+    ghost invariant = { λ image.
+        IsImage (shaped image.parts image.shape)
+        × (image.shape.words ≡ map (λ load. length load.words) image.parts.loads) };
 }
 
 impl Image {
@@ -34,6 +44,15 @@ impl Image {
         ensures sound { IsImage self.now }
     {
         self.parts.spec()
+    }
+
+    /// The digest of the file (SHA-256 of its bytes), the capacities of a recorder's buffers, and how
+    /// many data words each task has.
+    pub fn shape(&self) -> &Shape
+        ensures value { result.now ≡ shape_of self.now }
+        ensures sound { IsShape (shape_of self.now) }
+    {
+        &self.shape
     }
 
     /// The number of tasks, 1 to 16.
@@ -74,30 +93,62 @@ impl Image {
     }
 }
 
-/// Reads an image of the small form: the line `tmi 1`; for each task from number 0 on a line
-/// `task N basic PRIO START ENTRY WORDS`, with START `auto` or `off`, and a line `text N W ..` of
-/// words of eight lower-case hexadecimal digits; then lines `line L activate T` of rising L below 16.
-/// Each PRIO is another one from 1 to 255, ENTRY is the address of a word of the text, and there are
-/// 1 to 16 tasks with 1 to 16,384 words of text and of data each. Data words are 0.
+/// The digest of an image's file.
+#[tactic(auto, unfolding(crate::specs::Image::image_digest))]
+fn digest_of(bytes: &[u8]) -> [u8; 32]
+    ensures value { result ≡ image_digest bytes.now }
+    ensures long { length result ≡ 32 }
+{
+    Sha256::digest(bytes)
+}
+
+/// What the lines of an image make.
+#[tactic(auto, unfolding(crate::specs::Image::draft_of))]
+fn read_draft(alloc: Global, bytes: &[u8]) -> Result<Reading, ImageFault>
+    requires { length bytes.now < 2 ^ 32 - 1 }
+    ensures { Gives (λ draft. draft) result (draft_of bytes.now) }
+{
+    let (first, body) = below_header(alloc, b"tmi", bytes)?;
+    let mut draft = Reading::new(alloc);
+    let last = take_lines(alloc, &mut draft, first, body)?;
+    draft.end().map_err(|reason| Fault::on_line(last, reason))?;
+    Ok(draft)
+}
+
+/// Reads an image: below the header `tmi 1`, lines of these forms in any order, a task before what
+/// names it.
+///
+/// - `task N KIND PRIO START ENTRY WORDS`: KIND is `basic` or `extended`, PRIO 1 to 255 and no other
+///   task's, START `auto` or `off`, ENTRY a multiple of 4, WORDS 1 to 16,384 data words.
+/// - `text N W ..` appends words to the text of a task, up to 16,384.
+/// - `data N OFFSET W ..` sets data words of a task from an offset on.
+/// - `resource N T ..` declares the users of a resource.
+/// - `alarm N ACTION`: ACTION is `activate T` or `event T MASK`.
+/// - `box N CAP`: CAP is 1 to 64 messages.
+/// - `line L ACTION`: L is below 16, and ACTION may be `tick` too.
+/// - `ring WHAT N`: WHAT is `control`, `data`, `outputs` or `checks`; N is 1 to 65,536 items, and 1
+///   to 64 for `checks`.
+///
+/// Tasks, resources, alarms and boxes are numbered from 0 in their order; there are at most 16 of
+/// each. At the end there is a task, each task has a text, and each ENTRY is inside it. Data words that
+/// are not set are 0.
 ///
 /// # Errors
 ///
-/// `NotSmall` only for other texts; `Memory` where there is too little memory for the image or for
-/// the tokens of a line.
+/// The first line that is refused, and why; `Memory` where there is too little memory for the image or
+/// for the tokens of a line.
 #[tactic(auto, unfolding(crate::specs::Image::image_of))]
-pub fn read_image(alloc: Global, bytes: &[u8]) -> Result<Image, Unread>
-    ensures read { IfOk result (λ image. image_of bytes.now ≡ Some image) }
-    ensures refused { result ≡ Err Unread.NotSmall → image_of bytes.now ≡ None }
+pub fn read_image(alloc: Global, bytes: &[u8]) -> Result<Image, ImageFault>
+    requires { length bytes.now < 2 ^ 32 - 1 }
+    ensures read { Gives (λ image. image) result (image_of bytes.now) }
     ensures sound { IfOk result IsImage }
 {
-    let body = text_below(b"tmi 1", bytes)?;
-    let mut reading = Reading::new(alloc);
-    take_lines(alloc, &mut reading, body)?;
-    if !reading.is_whole() {
-        return Err(Unread::NotSmall);
-    }
-    Ok(Image { parts: reading })
+    let parts = read_draft(alloc, bytes)?;
+    let words = parts.word_counts(alloc)?;
+    let shape = Shape {
+        image: digest_of(bytes),
+        caps: parts.caps(),
+        words,
+    };
+    Ok(Image { parts, shape })
 }
-
-#[cfg(test)]
-mod tests;

@@ -1,31 +1,40 @@
 //! Text files read into values: what a machine is made of, and the slices that it is to run.
 //!
-//! [`read_image`] reads an [`Image`], and [`read_plan`] a [`Plan`]; [`Unread`] says why a text gave
-//! neither. In the small form of both files every line ends with LF, its tokens have one space
-//! between them, and the first token says what the others mean. Numbers are decimal without leading
-//! zeros.
+//! [`read_image`] reads an [`Image`], and [`read_plan`] a [`Plan`]; a [`Fault`] says which line of a
+//! text was refused first, and why. A line ends with LF, which the last line may lack, and one CR
+//! before its end is dropped. Its tokens are parted by spaces and tabs, and the first says what the
+//! others mean. A line without tokens, or whose first token begins with `#`, is skipped. A number is
+//! `0x` and 1 to 8 hexadecimal digits, or 1 to 10 decimal digits; a word is 8 hexadecimal digits.
 //!
 //! ```text
-//! tmi 1                               tmplan 1
-//! task 0 basic 1 auto 0 1             slice 5 0
-//! text 0 0000006f                     slice 2 0x2
+//! tmi 1                                     tmplan 1
+//! # a background loop and one more task     slice 5 0
+//! task 0 basic 1 auto 0 1                   slice 2 0x2
+//! text 0 0000006f                           slice 9 6 1 2 3 0xffffffff
 //! task 1 basic 2 off 0 1
 //! text 1 00200893 00000073
 //! line 1 activate 1
+//! line 2 tick
 //! ```
 #![tactic(auto)]
 
+mod draft;
 mod examples;
+mod fault;
 mod image;
+mod laws;
 mod lines;
 mod load;
 mod numbers;
 mod plan;
-mod reading;
+mod rings;
 mod said;
-mod unread;
 
 pub use examples::{image_examples, plan_examples};
+pub use fault::{Fault, ImageFault, PlanFault, Reason};
 pub use image::{Image, read_image};
+pub use laws::{faults_are_never_memory, image_faults_are_first, plan_faults_are_first};
 pub use plan::{Plan, read_plan};
-pub use unread::Unread;
+
+#[cfg(test)]
+mod tests;

@@ -1,32 +1,35 @@
 //! What one task is loaded from.
 
-ghost use Rattle.std.specs.Prelude.{◌≡◌, [], length, not, nat_le, replicate, Option, Some, None, IfOk};
-ghost use Rattle.tm_image.specs.Steps.{Gives};
-ghost use Rattle.tm_image.specs.Image.{Load, has_text, is_inside, text_on, with_text};
+ghost use Rattle.std.specs.Prelude.{◌≡◌, ◌<◌, ◌^◌, [], length, replicate, Option, Some, IfOk};
+ghost use Rattle.tm_image.specs.Steps.{Answers};
+ghost use Rattle.tm_image.specs.Load.{Load, has_no_text, is_outside, more_text, with_text, new_data, with_data};
 
-use crate::Unread;
-use crate::said::TextLine;
+use crate::Reason;
+use crate::said::{DataLine, TextLine};
 use std::alloc::{AllocError, Global};
 use std::marker::Model;
 use tm_marker::Items;
 
 /// How many words a task's text and data have at most.
-pub(crate) const MOST_WORDS: u32 = 16_384;
+pub(crate) const MOST_WORDS: usize = 16_384;
 
 /// A task's entry, in bytes, its text, and its data words at boot.
 #[derive(Debug, Drop)]
 pub(crate) struct Loaded {
     entry: u32,
-    text: Items<u32>,
-    words: Items<u32>,
+    text: Vec<u32>,
+    words: Vec<u32>,
 }
 
 impl Model for Loaded {
-    ghost use Rattle.tm_image.specs.Image.{Load};
+    ghost use Rattle.std.specs.Prelude.{◌≤◌, ◌<◌, ◌^◌, length};
+    ghost use Rattle.tm_image.specs.Load.{Load};
 
     ghost Value = { Load };
 
-    ghost view = { λ l. record { entry = l.entry; text = l.text; words = l.words } };
+    ghost view = { λ l. record { entry = l.entry; text = l.text.items; words = l.words.items } };
+
+    ghost invariant = { λ l. (length l.text.items ≤ 16384) × (length l.words.items < 2 ^ 32) };
 }
 
 impl Loaded {
@@ -37,8 +40,8 @@ impl Loaded {
         let words = vec![in alloc; 0; words as usize]?;
         Ok(Loaded {
             entry,
-            text: Items::new(alloc),
-            words: Items::from(words),
+            text: Vec::new(alloc),
+            words,
         })
     }
 
@@ -55,44 +58,68 @@ impl Loaded {
     }
 
     pub(crate) fn words(&self) -> &[u32]
-        ensures { result.now ≡ self.now.words }
+        ensures value { result.now ≡ self.now.words }
+        ensures few { length self.now.words < 2 ^ 32 }
     {
         self.words.as_slice()
     }
 
-    /// Whether the task has its text.
-    pub(crate) fn has_text(&self) -> bool
-        ensures { result ≡ has_text self.now }
+    /// Whether the task has no text.
+    pub(crate) fn has_no_text(&self) -> bool
+        ensures { result ≡ has_no_text self.now }
     {
-        !self.text.is_empty()
+        self.text.is_empty()
     }
 
-    /// Whether the entry is the address of a word of the text.
-    pub(crate) fn is_inside(&self) -> bool
-        ensures { result ≡ is_inside self.now }
+    /// Whether the entry is no address in the text.
+    pub(crate) fn is_outside(&self) -> bool
+        ensures { result ≡ is_outside self.now }
     {
-        ((self.entry / 4) as usize) < self.text.len()
+        self.entry as usize >= 4 * self.text.len()
     }
 
-    fn set_text(&mut self, words: Items<u32>) -> Result<(), Unread>
-        ensures { Gives (λ _. self.new) result (text_on (Some self.old) words) }
+    fn add_text(&mut self, words: &[u32]) -> Result<(), Reason>
+        ensures { Answers (λ _. self.new) result (more_text words.now (Some self.old)) }
     {
-        if self.has_text() || words.len() > MOST_WORDS as usize {
-            return Err(Unread::NotSmall);
+        if self.text.len() + words.len() > MOST_WORDS {
+            return Err(Reason::Limit);
         }
-        self.text = words;
+        self.text.extend_from_slice(words)?;
+        Ok(())
+    }
+
+    fn set_data(&mut self, offset: u32, words: &[u32]) -> Result<(), Reason>
+        ensures { Answers (λ _. self.new) result (new_data offset words.now (Some self.old)) }
+    {
+        let offset = offset as usize;
+        if offset + words.len() > self.words.len() {
+            return Err(Reason::Range);
+        }
+        self.words[offset..offset + words.len()].copy_from_slice(words);
         Ok(())
     }
 }
 
-/// Gives the task that the line names its text.
-pub(crate) fn set_text(loads: &mut [Loaded], line: TextLine) -> Result<(), Unread>
-    ensures { Gives (λ _. loads.new) result (with_text loads.old line) }
+/// Gives the task that a line `text` names more words of text.
+pub(crate) fn add_text(loads: &mut [Loaded], line: &TextLine) -> Result<(), Reason>
+    ensures { Answers (λ _. loads.new) result (with_text loads.old line.now) }
 {
     let number = line.number as usize;
     if number >= loads.len() {
-        return Err(Unread::NotSmall);
+        return Err(Reason::Range);
     }
     let load = &mut loads[number];
-    load.set_text(line.words)
+    load.add_text(line.words.as_slice())
+}
+
+/// Sets data words of the task that a line `data` names.
+pub(crate) fn set_data(loads: &mut [Loaded], line: &DataLine) -> Result<(), Reason>
+    ensures { Answers (λ _. loads.new) result (with_data loads.old line.now) }
+{
+    let number = line.number as usize;
+    if number >= loads.len() {
+        return Err(Reason::Range);
+    }
+    let load = &mut loads[number];
+    load.set_data(line.offset, line.words.as_slice())
 }

@@ -1,59 +1,58 @@
 //! The spelling of numbers and words.
 
 ghost use Rattle.std.specs.Prelude.{◌≡◌, ◌<◌, ◌≤◌, ◌^◌, length, map, IfOk};
-ghost use Rattle.tm_image.specs.Steps.{Gives};
-ghost use Rattle.tm_image.specs.Numbers.{digit_in, hex_digit_in, number_in, hex_in, word_in, mask_in, all_in};
+ghost use Rattle.tm_image.specs.Steps.{Answers};
+ghost use Rattle.tm_image.specs.Numbers.{digit_in, hex_digit_in, decimal_in, hex_in, number_in, word_in, all_in};
 
-use crate::Unread;
+use crate::Reason;
 use std::alloc::Global;
 use tm_marker::Items;
 
 /// The value of a decimal digit.
-fn digit_at(c: u8) -> Result<u8, Unread>
-    ensures value { Gives (λ d. d) result (digit_in c) }
+fn digit_at(c: u8) -> Result<u8, Reason>
+    ensures value { result ≡ digit_in c }
     ensures small { IfOk result (λ d. d < 10) }
 {
     if c.is_ascii_digit() {
         Ok(c - b'0')
     } else {
-        Err(Unread::NotSmall)
+        Err(Reason::Number)
     }
 }
 
-/// The value of a hexadecimal digit.
-fn hex_digit_at(c: u8) -> Result<u8, Unread>
-    ensures value { Gives (λ d. d) result (hex_digit_in c) }
+/// The value of a hexadecimal digit of either case.
+fn hex_digit_at(c: u8) -> Result<u8, Reason>
+    ensures value { result ≡ hex_digit_in c }
     ensures small { IfOk result (λ d. d < 16) }
 {
     match c {
         b'a'..=b'f' => Ok(c - b'a' + 10),
+        b'A'..=b'F' => Ok(c - b'A' + 10),
         _ => digit_at(c),
     }
 }
 
-/// A decimal number without leading zeros.
-pub(crate) fn number_at(token: &[u8]) -> Result<u32, Unread>
-    ensures { Gives (λ n. n) result (number_in token.now) }
+/// A number of 32 bits in 1 to 10 decimal digits.
+fn decimal_at(digits: &[u8]) -> Result<u32, Reason>
+    ensures { result ≡ decimal_in digits.now }
 {
-    match token {
-        [] | [b'0', _, ..] => return Err(Unread::NotSmall),
-        _ if token.len() > 10 => return Err(Unread::NotSmall),
-        _ => {}
+    if digits.is_empty() || digits.len() > 10 {
+        return Err(Reason::Number);
     }
     let mut number: u64 = 0;
-    for c in token {
+    for c in digits {
         number = 10 * number + u64::from(digit_at(*c)?);
     }
-    u32::try_from(number).map_err(|_| Unread::NotSmall)
+    u32::try_from(number).map_err(|_| Reason::Number)
 }
 
 /// A number in hexadecimal digits, from `least` to `most` of them.
-fn hex_at(least: usize, most: usize, digits: &[u8]) -> Result<u32, Unread>
+fn hex_at(least: usize, most: usize, digits: &[u8]) -> Result<u32, Reason>
     requires { most ≤ 8 }
-    ensures { Gives (λ n. n) result (hex_in least most digits.now) }
+    ensures { result ≡ hex_in least most digits.now }
 {
     if digits.len() < least || most < digits.len() {
-        return Err(Unread::NotSmall);
+        return Err(Reason::Number);
     }
     let mut number: u32 = 0;
     for c in digits {
@@ -62,31 +61,43 @@ fn hex_at(least: usize, most: usize, digits: &[u8]) -> Result<u32, Unread>
     Ok(number)
 }
 
+/// A number: `0x` and 1 to 8 hexadecimal digits, or 1 to 10 decimal digits; its value is below 2^32.
+#[tactic(auto, unfolding(crate::specs::Numbers::number_in))]
+pub(crate) fn number_at(token: &[u8]) -> Result<u32, Reason>
+    ensures { result ≡ number_in token.now }
+{
+    match token {
+        [b'0', b'x', digits @ ..] => hex_at(1, 8, digits),
+        _ => decimal_at(token),
+    }
+}
+
 /// A word: eight hexadecimal digits.
-pub(crate) fn word_at(token: &[u8]) -> Result<u32, Unread>
-    ensures { Gives (λ word. word) result (word_in token.now) }
+#[tactic(auto, unfolding(crate::specs::Numbers::word_in))]
+pub(crate) fn word_at(token: &[u8]) -> Result<u32, Reason>
+    ensures { result ≡ word_in token.now }
 {
     hex_at(8, 8, token)
 }
 
-/// A mask: `0`, or `0x` and one to four hexadecimal digits.
-pub(crate) fn mask_at(token: &[u8]) -> Result<u32, Unread>
-    ensures { Gives (λ mask. mask) result (mask_in token.now) }
-{
-    match token {
-        b"0" => Ok(0),
-        [b'0', b'x', digits @ ..] => hex_at(1, 4, digits),
-        _ => Err(Unread::NotSmall),
-    }
-}
-
 /// The words that the tokens spell.
-pub(crate) fn words_at(alloc: Global, tokens: &[&[u8]]) -> Result<Items<u32>, Unread>
-    ensures { Gives (λ words. words) result (all_in word_in (map (λ token. token.now) tokens.now)) }
+pub(crate) fn words_at(alloc: Global, tokens: &[&[u8]]) -> Result<Items<u32>, Reason>
+    ensures { Answers (λ words. words) result (all_in word_in (map (λ token. token.now) tokens.now)) }
 {
     let mut words = Items::new(alloc);
     for token in tokens {
         words.push(word_at(token)?)?;
     }
     Ok(words)
+}
+
+/// The numbers that the tokens spell.
+pub(crate) fn numbers_at(alloc: Global, tokens: &[&[u8]]) -> Result<Items<u32>, Reason>
+    ensures { Answers (λ numbers. numbers) result (all_in number_in (map (λ token. token.now) tokens.now)) }
+{
+    let mut numbers = Items::new(alloc);
+    for token in tokens {
+        numbers.push(number_at(token)?)?;
+    }
+    Ok(numbers)
 }

@@ -1,12 +1,12 @@
 //! A plan: the slices that a machine is to run.
 
-ghost use Rattle.std.specs.Prelude.{◌≡◌, [], map, All, IfOk, Option, Some, None};
-ghost use Rattle.tm_image.specs.Steps.{Gives};
-ghost use Rattle.tm_image.specs.Plan.{IsSlice, slice_in, new_slice, plan_of};
+ghost use Rattle.std.specs.Prelude.{◌≡◌, ◌<◌, ◌≤◌, ◌-◌, ◌^◌, [], ◌∷◌, length, map, All, IfOk};
+ghost use Rattle.tm_image.specs.Steps.{Answers, Gives};
+ghost use Rattle.tm_image.specs.Plan.{IsSlice, ports_in, slice_in, new_slice, plan_of};
 
-use crate::Unread;
-use crate::lines::{Format, take_lines, text_below};
-use crate::numbers::{mask_at, number_at};
+use crate::lines::{Format, below_header, spells, take_lines};
+use crate::numbers::number_at;
+use crate::{PlanFault, Reason};
 use std::alloc::Global;
 use std::marker::Model;
 use tm_marker::{Items, Slice};
@@ -44,11 +44,11 @@ impl Plan {
         self.slices.as_slice()
     }
 
-    fn add(&mut self, slice: Slice) -> Result<(), Unread>
-        ensures { Gives (λ _. self.new) result (new_slice self.old slice) }
+    fn add(&mut self, slice: Slice) -> Result<(), Reason>
+        ensures { Answers (λ _. self.new) result (new_slice self.old slice) }
     {
         if slice.length > LONGEST_SLICE || slice.mask > ALL_LINES {
-            return Err(Unread::NotSmall);
+            return Err(Reason::Range);
         }
         self.slices.push(slice)?;
         Ok(())
@@ -60,102 +60,82 @@ impl Format for Plan {
 
     ghost next = { plan_line };
 
-    fn take(&mut self, _alloc: Global, tokens: &[&[u8]]) -> Result<(), Unread> {
+    fn take(&mut self, _alloc: Global, tokens: &[&[u8]]) -> Result<(), Reason> {
         match tokens {
-            [b"slice", words @ ..] => self.add(slice_said(words)?),
-            _ => Err(Unread::NotSmall),
+            [keyword, words @ ..] if spells(keyword, b"slice") => self.add(slice_said(words)?),
+            _ => Err(Reason::Form),
         }
     }
 }
 
-/// What the words of a line `slice` say.
-fn slice_said(words: &[&[u8]]) -> Result<Slice, Unread>
-    ensures { Gives (λ slice. slice) result (slice_in (map (λ word. word.now) words.now)) }
+/// Four port words.
+fn four_ports(p0: &[u8], p1: &[u8], p2: &[u8], p3: &[u8]) -> Result<[u32; 4], Reason>
+    ensures { result ≡ ports_in (p0.now ∷ p1.now ∷ p2.now ∷ p3.now ∷ []) }
+{
+    Ok([
+        number_at(p0)?,
+        number_at(p1)?,
+        number_at(p2)?,
+        number_at(p3)?,
+    ])
+}
+
+/// The port words, which are 0 where none is given.
+fn ports_said(words: &[&[u8]]) -> Result<[u32; 4], Reason>
+    ensures { result ≡ ports_in (map (λ word. word.now) words.now) }
 {
     match words {
-        [length, mask] => Ok(Slice {
-            length: number_at(length)?,
-            mask: mask_at(mask)?,
-            ports: [0; 4],
-        }),
-        _ => Err(Unread::NotSmall),
+        [] => Ok([0; 4]),
+        [p0, p1, p2, p3] => four_ports(p0, p1, p2, p3),
+        _ => Err(Reason::Form),
     }
 }
 
-/// Reads a plan of the small form: the line `tmplan 1`, then lines `slice LENGTH MASK`. LENGTH is a
-/// decimal number of at most 1,048,576, and MASK is `0`, or `0x` and one to four lower-case
-/// hexadecimal digits. The port words are 0.
+/// What the words of a line `slice` say: LENGTH, MASK, and the ports or none of them.
+fn slice_said(words: &[&[u8]]) -> Result<Slice, Reason>
+    ensures { result ≡ slice_in (map (λ word. word.now) words.now) }
+{
+    match words {
+        [length, mask, ports @ ..] => {
+            let ports = ports_said(ports)?;
+            Ok(Slice {
+                length: number_at(length)?,
+                mask: number_at(mask)?,
+                ports,
+            })
+        }
+        _ => Err(Reason::Form),
+    }
+}
+
+/// Reads a plan: below the header `tmplan 1`, lines `slice LENGTH MASK` or
+/// `slice LENGTH MASK P0 P1 P2 P3`, with a LENGTH of at most 1,048,576 and a MASK of 16 bits. Port
+/// words that are not given are 0.
 ///
 /// # Errors
 ///
-/// `NotSmall` only for other texts; `Memory` where there is too little memory for the plan or for the
-/// tokens of a line.
-#[tactic(auto, unfolding(crate::specs::Plan::plan_of))]
-pub fn read_plan(alloc: Global, bytes: &[u8]) -> Result<Plan, Unread>
-    ensures read { IfOk result (λ plan. plan_of bytes.now ≡ Some plan) }
-    ensures refused { result ≡ Err Unread.NotSmall → plan_of bytes.now ≡ None }
+/// The first line that is refused, and why; `Missing` where no line is the header; `Memory` where
+/// there is too little memory for the plan or for the tokens of a line.
+#[tactic(auto, using(crate::proofs::Counts::few_slices))]
+pub fn read_plan(alloc: Global, bytes: &[u8]) -> Result<Plan, PlanFault>
+    requires { length bytes.now < 2 ^ 32 - 1 }
+    ensures read { Gives (λ plan. plan) result (plan_of bytes.now) }
     ensures sound { IfOk result (λ plan. All IsSlice plan) }
+    ensures few { IfOk result (λ plan. length plan ≤ length bytes.now) }
 {
-    let body = text_below(b"tmplan 1", bytes)?;
+    slices_of(alloc, bytes)
+}
+
+/// What the lines of a plan say.
+#[tactic(auto, unfolding(crate::specs::Plan::plan_of))]
+fn slices_of(alloc: Global, bytes: &[u8]) -> Result<Plan, PlanFault>
+    requires { length bytes.now < 2 ^ 32 - 1 }
+    ensures { Gives (λ plan. plan) result (plan_of bytes.now) }
+{
+    let (first, body) = below_header(alloc, b"tmplan", bytes)?;
     let mut plan = Plan {
         slices: Items::new(alloc),
     };
-    take_lines(alloc, &mut plan, body)?;
+    take_lines(alloc, &mut plan, first, body)?;
     Ok(plan)
-}
-
-#[cfg(test)]
-mod tests {
-    use super::*;
-    use std::test::Fail;
-
-    fn slice(length: u32, mask: u32) -> Slice {
-        Slice {
-            length,
-            mask,
-            ports: [0; 4],
-        }
-    }
-
-    #[test]
-    fn plans_are_read(rt: HostRuntime) -> Result<(), Fail> {
-        let alloc = rt.alloc();
-        let plan = read_plan(
-            alloc,
-            b"tmplan 1\nslice 5 0\nslice 2 0x2\nslice 1048576 0xffff\n",
-        )?;
-        assert_eq!(rt;
-            plan.slices(),
-            [slice(5, 0), slice(2, 2), slice(1_048_576, 0xffff)].as_slice()
-        );
-        assert_eq!(rt; read_plan(alloc, b"tmplan 1\n")?.slices().len(), 0);
-        Ok(())
-    }
-
-    #[test]
-    fn other_texts_are_refused(rt: HostRuntime) {
-        let alloc = rt.alloc();
-        let cases: [&[u8]; 16] = [
-            b"",
-            b"\n",
-            b"tmplan 1",
-            b"tmplan 01\n",
-            b"tmplan 1 \n",
-            b"tmplan 1\r\n",
-            b"tmplan 1\nslice 5 0",
-            b"tmplan 1\nslice 5\n",
-            b"tmplan 1\nslice 5 0 0\n",
-            b"tmplan 1\nslice 1048577 0\n",
-            b"tmplan 1\nslice 4294967296 0\n",
-            b"tmplan 1\nslice 05 0\n",
-            b"tmplan 1\nslice 5 0X1\n",
-            b"tmplan 1\nslice 5 0x\n",
-            b"tmplan 1\n# none\n",
-            b"tmplan 1\nslice\t5 0\n",
-        ];
-        for text in cases {
-            let refused = matches!(read_plan(alloc, text), Err(Unread::NotSmall));
-            assert!(rt; refused, "{text:?}");
-        }
-    }
 }
