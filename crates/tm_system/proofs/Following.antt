@@ -1,23 +1,27 @@
 -- Each moment of a script's run follows the moments before it, and is sound.
-use Rattle.std.proofs.Common.{◌≡◌, ◌≢◌, ℕ, zero, suc, ◌<◌, ◌⊎◌, Bool, true, ◌==◌, List, [], ◌∷◌, length, refl, ap, sym, ◌∙◌, subst, inl, inr, length-set, Some, slice_get, slice_set, slice_index, unwrap_or}
+use Rattle.std.proofs.Common.{arith, ◌≡◌, ◌≢◌, ℕ, zero, suc, ◌<◌, ◌⊎◌, Bool, true, ◌==◌, List, [], ◌∷◌, length, refl, ap, sym, ◌∙◌, inl, inr, length-set, Some, slice_get, slice_set, unwrap_or}
 use Rattle.std.proofs.lemmas.Bool.{cases_Bool, eqb-true, eqb-false}
 use Rattle.std.proofs.lemmas.List.{length-map}
 use Rattle.std.proofs.lemmas.Option.{slice_get_within}
 use Rattle.tm_marker.specs.declared.body.Body.{Body}
 use Rattle.tm_marker.specs.declared.entries.Slice.{Slice}
 use Rattle.tm_marker.specs.declared.entries.Kind.{Kind}
+use Rattle.tm_marker.specs.declared.entries.Kind.TheVariants.{Preempted, Waits, Ends, Fault, Shutdown, Idle}
 use Rattle.tm_task.specs.declared.outcome.Cause.{Cause}
 use Rattle.tm_task.specs.Exec.{Exec, Faults, Calls, Goes, exec}
 use Rattle.tm_task.specs.Standing.{args_of}
 use Rattle.tm_kernel.specs.declared.kernel.Need.{Need}
 use Rattle.tm_kernel.specs.declared.kernel.Need.TheVariants.{Goes as Continues, Leaves}
 use Rattle.tm_kernel.specs.State.{KernelState, IsKernel, IsRunning, nobody}
-use Rattle.tm_kernel.specs.declared.status.TheConstants.{E_OK}
-use Rattle.tm_kernel.specs.Service.{Answered, answer, chain_task, chaining}
+use Rattle.tm_kernel.specs.Service.{Answered, answer}
 use Rattle.tm_kernel.specs.Schedule.{rescheduled, arrived}
 use Rattle.tm_kernel.proofs.Keeping.{slice_get_set_same, booted_keeps, arrived_keeps, stopped_keeps}
 use Rattle.tm_kernel.proofs.Rescheduling.{rescheduling_keeps, runs_a_task, rescheduling_same_rest, arrival_latches, arrival_goes_on}
-use Rattle.tm_kernel.proofs.Answering.{call_keeps, call_same_rest, call_goes_on, call_leaves}
+use Rattle.tm_kernel.specs.Laws.{LeavesBy}
+use Rattle.tm_kernel.proofs.Answering.{call_keeps, call_same_rest, call_names_service, call_goes_on, call_leaves}
+use Rattle.tm_kernel.proofs.NestedCalls.{boot_is_nested, call_keeps_nested}
+use Rattle.tm_kernel.proofs.NestedStates.{arrival_keeps_nested, stop_keeps_nested, rescheduling_keeps_nested}
+use Rattle.tm_kernel.proofs.NestedSettling.{every_rescheduling_settles}
 use Rattle.tm_image.specs.Image.{ImageView, IsImage, entry_of, text_of}
 use Rattle.tm_system.specs.History.{Moment, History}
 use Rattle.tm_system.specs.Run.{now, running_at, body_at, no_body, arrival, left_by, moment_by, arrives, turned, turns, sliced, played}
@@ -43,6 +47,9 @@ boot_sound image i = record {
   kernel = booted_keeps image.spec i.spec;
   bodies = length-map image.loads _;
   idle = λ ended. absurd (ended refl);
+  nested = boot_is_nested image.spec i.spec;
+  settled = λ somebody. absurd (somebody refl);
+  nobody_waits = λ more _ _. absurd (omega (arith, more));
 }
 
 -- nobody runs, or a task of the image
@@ -70,7 +77,7 @@ arrival_good image h mask ports i s goes =
     let k : KernelState = (now image h).kernel in
     let a : KernelState = arrived k mask ports in
     let sound : IsKernel a = arrived_keeps k mask ports s.kernel in
-    let rest = (arrival_latches k mask ports).0 in
+    let rest = arrival_latches k mask ports in
     let spec : a.spec ≡ image.spec = rest.spec ∙ s.spec in
     let ended : (rescheduled a).ended ≡ 0 = (rescheduling_same_rest a).ended ∙ rest.ended ∙ goes in
     record {
@@ -84,6 +91,9 @@ arrival_good image h mask ports i s goes =
         kernel = rescheduling_keeps a sound;
         bodies = s.bodies;
         idle = λ stopped. absurd (stopped ended);
+        nested = rescheduling_keeps_nested a sound (arrival_keeps_nested k mask ports s.kernel s.nested);
+        settled = (every_rescheduling_settles a sound).settled;
+        nobody_waits = λ _ _ idle. (every_rescheduling_settles a sound).nobody_waits (rest.ended ∙ goes) idle;
       };
     }
 
@@ -130,44 +140,52 @@ step_good image h next back i s somebody e =
         };
         runs = inr there;
       };
-      sound = record { spec = s.spec; kernel = s.kernel; bodies = length-set _ t next ∙ s.bodies; idle = s.idle };
+      sound = record {
+        spec = s.spec;
+        kernel = s.kernel;
+        bodies = length-set _ t next ∙ s.bodies;
+        idle = s.idle;
+        nested = s.nested;
+        settled = s.settled;
+        nobody_waits = λ _ _ idle. absurd (somebody idle);
+      };
     }
 
-chain_service : (k : KernelState) (caller task : ℕ) → (chain_task k caller task).entry.service ≡ 3
-chain_service k caller task =
-    elim (cases_Bool (chaining k caller task == E_OK)) [ inl e ↦ rw e refl | inr e ↦ rw e refl ]
-
--- the entry of an answer has the called service's number
-answer_service : (k : KernelState) (task service : ℕ) (args : List ℕ) → (answer k task service args).entry.service ≡ service
-answer_service k task service args =
-    elim (cases_Bool (service == 1)) [
-      | inl e ↦ rw e (sym (eqb-true service 1 e))
-      | inr e ↦ rw e (elim (cases_Bool (service == 2)) [
-        | inl f ↦ rw f (sym (eqb-true service 2 f))
-        | inr f ↦ rw f (elim (cases_Bool (service == 3)) [
-          | inl g ↦ rw g (chain_service k task (slice_index args 0) ∙ sym (eqb-true service 3 g))
-          | inr g ↦ rw g (elim (cases_Bool (service == 9)) [
-            | inl n ↦ rw n (sym (eqb-true service 9 n))
-            | inr n ↦ rw n refl
-          ])
-        ])
-      ])
-    ]
+-- who may run after a caller left
+left_next : (k : KernelState) (task : ℕ) (new : KernelState) (kind : Kind) → LeavesBy kind k task new →
+    CanRunNext (Some kind) task (rescheduled new).running
+left_next k task new Waits l = l.1
+left_next k task new Ends l = tt
+left_next k task new Shutdown l = l.1
+left_next k task new Preempted l = absurd l
+left_next k task new Fault l = absurd l
+left_next k task new Idle l = absurd l
 
 -- who may run after a call
-can_run_next : (k : KernelState) (task service : ℕ) (args : List ℕ) → IsKernel k → IsRunning k task →
+can_run_next : (k : KernelState) (task service : ℕ) (args : List ℕ) → length args ≡ 6 → IsKernel k → IsRunning k task →
     (need : Need) → (answer k task service args).need ≡ need →
     CanRunNext (left_by need) task (rescheduled (answer k task service args).kernel).running
-can_run_next k task service args sound runs Continues e = (call_goes_on k task service args sound runs e).1
-can_run_next k task service args sound runs (Leaves kind) e =
-    let P : Kind → Type 0 = λ kind. CanRunNext (Some kind) task (rescheduled (answer k task service args).kernel).running in
-    subst P (sym (call_leaves k task service args kind e).0) tt
+can_run_next k task service args six sound runs Continues e = (call_goes_on k task service args six sound runs e).somebody
+can_run_next k task service args six sound runs (Leaves kind) e =
+    left_next k task (answer k task service args).kernel kind (call_leaves k task service args kind six sound runs e).1
 
--- a call does not end the run
-ended_by_call : (k : KernelState) (task service : ℕ) (args : List ℕ) → (need : Need) → (answer k task service args).need ≡ need →
-    ended_by (left_by need) ≡ 0
-ended_by_call k task service args Continues e = refl
-ended_by_call k task service args (Leaves kind) e = ap (λ kind. ended_by (Some kind)) (call_leaves k task service args kind e).0
+-- how the run stands after a caller left
+left_ended : (k : KernelState) (task : ℕ) (new : KernelState) (kind : Kind) → LeavesBy kind k task new → k.ended ≡ 0 →
+    new.ended ≡ ended_by (Some kind)
+left_ended k task new Waits l e = l.0 ∙ e
+left_ended k task new Ends l e = l ∙ e
+left_ended k task new Shutdown l e = l.0
+left_ended k task new Preempted l e = absurd l
+left_ended k task new Fault l e = absurd l
+left_ended k task new Idle l e = absurd l
+
+-- how the run stands after a call: only a shutdown ends it
+ended_by_call : (k : KernelState) (task service : ℕ) (args : List ℕ) → length args ≡ 6 → IsKernel k → IsRunning k task →
+    k.ended ≡ 0 → (need : Need) → (answer k task service args).need ≡ need →
+    (answer k task service args).kernel.ended ≡ ended_by (left_by need)
+ended_by_call k task service args six sound runs goes Continues e = (call_goes_on k task service args six sound runs e).ended ∙ goes
+ended_by_call k task service args six sound runs goes (Leaves kind) e =
+    left_ended k task (answer k task service args).kernel kind (call_leaves k task service args kind six sound runs e).1 goes
 
 -- the running task's call is answered
 call_good : (image : ImageView) (h : History) (service : ℕ) → IsImage image → IsSoundAt image h →
@@ -184,19 +202,19 @@ call_good image h service i s somebody e =
       runs = refl;
       there = (let same : length image.loads ≡ length k.states = i.loads ∙ ap (λ s. length s.tasks) (sym s.spec) ∙ sym s.kernel.states in rw (← same) there);
     } in
-    let sound : IsKernel a.kernel = call_keeps k t service (args_of b) s.kernel runs in
+    let sound : IsKernel a.kernel = call_keeps k t service (args_of b) refl s.kernel runs in
     let rest = call_same_rest k t service (args_of b) in
     let spec : a.kernel.spec ≡ image.spec = rest.spec ∙ s.spec in
-    let ended : (rescheduled a.kernel).ended ≡ 0 = (rescheduling_same_rest a.kernel).ended ∙ rest.ended ∙ goes_still image h s somebody in
+    let goes : k.ended ≡ 0 = goes_still image h s somebody in
     record {
       follows = record {
         goes = goes_still image h s somebody;
         did = record {
           turn = record { runs = refl; there = there };
-          calls = e ∙ ap Calls (sym (answer_service k t service (args_of b)));
+          calls = e ∙ ap Calls (sym (call_names_service k t service (args_of b)));
           bodies = refl;
-          next = can_run_next k t service (args_of b) s.kernel runs a.need refl;
-          ended = ended ∙ sym (ended_by_call k t service (args_of b) a.need refl);
+          next = can_run_next k t service (args_of b) refl s.kernel runs a.need refl;
+          ended = (rescheduling_same_rest a.kernel).ended ∙ ended_by_call k t service (args_of b) refl s.kernel runs goes a.need refl;
         };
         runs = runs_in_image image a.kernel i sound spec;
       };
@@ -204,7 +222,12 @@ call_good image h service i s somebody e =
         spec = (rescheduling_same_rest a.kernel).spec ∙ spec;
         kernel = rescheduling_keeps a.kernel sound;
         bodies = length-set _ t _ ∙ s.bodies;
-        idle = λ stopped. absurd (stopped ended);
+        idle = (rescheduling_keeps a.kernel sound).idle;
+        nested = rescheduling_keeps_nested a.kernel sound
+            (call_keeps_nested k t service (args_of b) s.kernel s.nested s.settled runs);
+        settled = (every_rescheduling_settles a.kernel sound).settled;
+        nobody_waits = λ _ goes_on idle.
+            (every_rescheduling_settles a.kernel sound).nobody_waits (sym (rescheduling_same_rest a.kernel).ended ∙ goes_on) idle;
       };
     }
 
@@ -231,6 +254,9 @@ fault_good image h cause i s somebody e = record {
     kernel = stopped_keeps (now image h).kernel true s.kernel;
     bodies = s.bodies;
     idle = λ _. refl;
+    nested = stop_keeps_nested (now image h).kernel true s.kernel s.nested;
+    settled = λ somebody. absurd (somebody refl);
+    nobody_waits = λ _ goes_on _. absurd (omega (arith, goes_on));
   };
 }
 

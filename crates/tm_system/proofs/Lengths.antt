@@ -1,5 +1,5 @@
 -- How long a run is, and that no epoch is later than that.
-use Rattle.std.proofs.Common.{ℕ, zero, suc, ◌+◌, ◌*◌, ◌≤◌, ◌==◌, List, [], ◌∷◌, length, arith, All, inl, inr}
+use Rattle.std.proofs.Common.{ℕ, zero, suc, ◌+◌, ◌*◌, ◌<◌, ◌≤◌, ◌==◌, List, [], ◌∷◌, length, arith, All, inl, inr}
 use Rattle.std.proofs.lemmas.Bool.{cases_Bool}
 use Rattle.std.proofs.lemmas.List.Elements.{All-tail}
 use Rattle.tm_marker.specs.declared.entries.Slice.{Slice}
@@ -53,3 +53,43 @@ played_short image (s ∷ ss) h short =
     let first : s.length ≤ 1048576 = short 0 s (omega arith) in
     let rest = All-tail (λ (s : Slice). s.length ≤ 1048576) s ss short in
     omega (arith, played_short image ss (sliced image h s) rest, sliced_short image s h first)
+
+-- a run never gets shorter
+turned_long : (image : ImageView) (h : History) → length h ≤ length (turned image h)
+turned_long image h =
+    elim (cases_Bool (running_at image h == nobody)) [
+      | inl e ↦ rw e (omega arith)
+      | inr e ↦ rw e (omega arith)
+    ]
+
+turns_long : (image : ImageView) (n : ℕ) (h : History) → length h ≤ length (turns image n h)
+unfolding turns
+turns_long image zero h = omega arith
+turns_long image (suc n) h = omega (arith, turned_long image (turns image n h), turns_long image n h)
+
+arrives_long : (image : ImageView) (mask : ℕ) (ports : List ℕ) (h : History) → length h ≤ length (arrives image mask ports h)
+arrives_long image mask ports h =
+    elim (cases_Bool ((now image h).kernel.ended == 0)) [
+      | inl e ↦ rw e (omega arith)
+      | inr e ↦ rw e (omega arith)
+    ]
+
+pub played_long : (image : ImageView) (script : List Slice) (h : History) → length h ≤ length (played image h script)
+played_long image [] h = omega arith
+played_long image (s ∷ ss) h =
+    omega (
+      arith,
+      played_long image ss (sliced image h s),
+      turns_long image s.length (arrives image s.mask s.ports h),
+      arrives_long image s.mask s.ports h,
+    )
+
+-- the first slice makes a moment: the run goes on at boot
+pub first_moment : (image : ImageView) (script : List Slice) → 0 < length script → 0 < length (played image [] script)
+first_moment image [] some = absurd (omega (arith, some))
+first_moment image (s ∷ ss) some =
+    omega (
+      arith,
+      played_long image ss (sliced image [] s),
+      turns_long image s.length (arrives image s.mask s.ports []),
+    )

@@ -4,7 +4,11 @@ pub mod Turning
 pub mod Calling
 pub mod Stepping
 pub mod Adding
+pub mod Advancing
+pub mod Quieting
 pub mod Booting
 pub mod Following
 pub mod Lengths
 pub mod Texts
+pub mod Gaining
+mod Copied

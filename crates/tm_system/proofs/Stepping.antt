@@ -79,7 +79,7 @@ put_back xs i x there =
     ap (λ (t : TaskView). slice_set xs i t) (sym (get_or_from_slice_get xs i x x there)) ∙ set-get_or xs i x
 
 -- a step at a call or a fault leaves the machine
-put_stays : (old new : MachineView) (r : ℕ) (before after : TaskView) → slice_get old.tasks r ≡ Some before → after ≡ before →
+pub put_stays : (old new : MachineView) (r : ℕ) (before after : TaskView) → slice_get old.tasks r ≡ Some before → after ≡ before →
     new ≡ record old { tasks = slice_set old.tasks r after } → new ≡ old
 put_stays old new r before after there same rest =
     rest ∙ ap (λ (t : TaskView). record old { tasks = slice_set old.tasks r t }) same ∙

@@ -13,9 +13,9 @@ use Rattle.tm_task.specs.declared.outcome.Cause.{Cause}
 use Rattle.tm_task.specs.Exec.{Exec, Faults, Calls, Goes, exec}
 use Rattle.tm_task.specs.Standing.{Standing, TaskView, went, is_full, answered, begins_epoch, reply, args_of}
 use Rattle.tm_task.specs.Stepped.{Went, DidRun, DidForce}
-use Rattle.tm_kernel.specs.State.{KernelState, IsKernel, IsRunning, nobody}
+use Rattle.tm_kernel.specs.State.{KernelState, IsKernel, IsRunning, nobody, stopped}
 use Rattle.tm_kernel.specs.Service.{Answered, answer}
-use Rattle.tm_kernel.specs.Schedule.{rescheduled, arrived, stopped}
+use Rattle.tm_kernel.specs.Schedule.{rescheduled, arrived}
 use Rattle.tm_kernel.specs.declared.spec.KernelSpec.{KernelSpec}
 use Rattle.tm_kernel.proofs.Rescheduling.{rescheduling_same_rest, arrival_latches}
 use Rattle.tm_kernel.proofs.Answering.{call_same_rest}
@@ -317,7 +317,7 @@ fault_switch image h old new r cause runs did sound at =
 
 -- an arrival and a call leave the kernel's specification
 pub arrival_spec : (k : KernelState) (mask : ℕ) (ports : List ℕ) → (rescheduled (arrived k mask ports)).spec ≡ k.spec
-arrival_spec k mask ports = (rescheduling_same_rest (arrived k mask ports)).spec ∙ (arrival_latches k mask ports).0.spec
+arrival_spec k mask ports = (rescheduling_same_rest (arrived k mask ports)).spec ∙ (arrival_latches k mask ports).spec
 
 pub call_spec : (k : KernelState) (task service : ℕ) (args : List ℕ) → (rescheduled (answer k task service args).kernel).spec ≡ k.spec
 call_spec k task service args =

@@ -1,11 +1,11 @@
 -- The lists that a run leaves: control entries, data entries, outputs, checkpoints.
 use Rattle.std.specs.Prelude.{ℕ, Bool, not, ◌||◌, ◌==◌, if◌then◌else◌, List, [], ◌∷◌, ◌++◌, length, Option, None, unwrap_or, is_some, option_to_list}
-use Rattle.tm_marker.specs.declared.body.Body.{Body}
 use Rattle.tm_marker.specs.declared.entries.DataEntry.{DataEntry}
 use Rattle.tm_marker.specs.declared.entries.OutputEntry.{OutputEntry}
 use Rattle.tm_marker.specs.declared.entries.Switch.{Switch}
 use Rattle.tm_marker.specs.declared.entries.Kind.{Kind}
 use Rattle.tm_marker.specs.declared.entries.Kind.TheVariants.{Preempted, Idle}
+pub use Rattle.tm_check.specs.Checkpoint.{Checkpoint}
 use Rattle.tm_kernel.specs.State.{nobody}
 use Rattle.tm_image.specs.Image.{ImageView}
 use Rattle.tm_system.specs.History.{Deed, Arrives, Steps, Answers, Faulted, Moment, History}
@@ -62,12 +62,6 @@ output_of (Faulted other cause) = None
 unfoldable pub outputs : History → List OutputEntry
 outputs [] = []
 outputs (m ∷ h) = outputs h ++ option_to_list (output_of m.deed)
-
--- a checkpoint: the task's body, and the totals of its data entries and of the control entries then
-pub record Checkpoint : Type 0 where
-  pub body : Body
-  pub data_number : ℕ
-  pub control_number : ℕ
 
 -- the task's checkpoints, oldest first: one at boot, and one after each epoch start, without the
 -- control entry of the same moment

@@ -16,8 +16,10 @@ use Rattle.tm_system.specs.Controls.{controls}
 -- an image of basic tasks with these texts, each entered at 0, with one data word; the lines' actions
 abbrev pub image_of_texts : List TaskSpec → List (List ℕ) → List Action → ImageView
 image_of_texts tasks texts lines = record {
+  digest = replicate 32 0;
   spec = record { tasks = tasks; users = []; alarms = []; boxes = []; lines = lines };
   loads = map (λ text. record { entry = 0; text = text; words = 0 ∷ [] }) texts;
+  caps = record { control = 256; logs = 256; outputs = 256; checks = 4 };
 }
 
 -- a basic task of this priority

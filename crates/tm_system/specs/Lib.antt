@@ -9,3 +9,4 @@ pub mod Machine
 pub mod Parts
 pub mod Examples
 pub mod Laws
+pub mod Gaining

@@ -1,12 +1,12 @@
 -- What the machine has at a moment of a run, and what it tells of one.
-use Rattle.std.specs.Prelude.{◌≡◌, ℕ, ◌<◌, ◌==◌, if◌then◌else◌, List, length, slice_get, Option, Some, None}
+use Rattle.std.specs.Prelude.{◌≡◌, ℕ, ◌<◌, ◌==◌, false, if◌then◌else◌, List, length, slice_get, Option, Some, None}
 use Rattle.tm_marker.specs.declared.entries.DataEntry.{DataEntry}
 use Rattle.tm_task.specs.Standing.{TaskView}
 use Rattle.tm_kernel.specs.State.{KernelState, IsKernel, nobody}
 use Rattle.tm_image.specs.Image.{ImageView, entry_of}
 use Rattle.tm_system.specs.declared.machine.Told.{Told}
 use Rattle.tm_system.specs.History.{Deed, Arrives, Steps, Answers, Faulted, Moment, History}
-use Rattle.tm_system.specs.Run.{now, arrival}
+use Rattle.tm_system.specs.Run.{now, arrival, next_moment}
 use Rattle.tm_system.specs.Marks.{is_start, backs, standing_at}
 use Rattle.tm_system.specs.Controls.{is_switch, switch_at, output_of}
 use Rattle.tm_system.specs.Telling.{cause_of}
@@ -58,6 +58,14 @@ told_of image m h = record {
   fault = cause_of m.deed;
   idle = m.after.kernel.running == nobody;
 }
+
+-- what is told of an instruction that goes on in its epoch
+abbrev pub told_going_on : Told
+told_going_on = record { entry = None; output = None; checkpoint = None; switch = None; fault = 0; idle = false }
+
+-- the next moment adds to no list, and somebody runs after it
+abbrev pub IsQuiet : ImageView → History → Type 0
+IsQuiet image h = told_of image (next_moment image h) h ≡ told_going_on
 
 -- what is told where nothing was done
 abbrev pub told_nothing : ImageView → History → Told

@@ -1,5 +1,5 @@
 -- What the parts of a moment make of a machine.
-use Rattle.std.specs.Prelude.{◌≡◌, ℕ, ◌^◌, ◌<◌, ◌⊎◌, ◌||◌, not, ◌==◌, if◌then◌else◌, List, length, slice_get, slice_set, Option, Some, None, is_some}
+use Rattle.std.specs.Prelude.{◌≡◌, ℕ, ◌^◌, ◌<◌, ◌⊎◌, ◌||◌, not, ◌==◌, if◌then◌else◌, List, length, map, slice_get, slice_set, Option, Some, None, is_some}
 use Rattle.tm_marker.specs.declared.marker.Marker.{Marker}
 use Rattle.tm_marker.specs.declared.entries.DataEntry.{DataEntry}
 use Rattle.tm_marker.specs.declared.entries.Switch.{Switch}
@@ -7,6 +7,7 @@ use Rattle.tm_marker.specs.declared.entries.Kind.{Kind}
 use Rattle.tm_task.specs.declared.outcome.Stepped.{Stepped}
 use Rattle.tm_task.specs.Standing.{TaskView, booted_task, answered, marker_of}
 use Rattle.tm_task.specs.Stepped.{Did}
+use Rattle.tm_task.specs.RunsOn.{RunsOn}
 use Rattle.tm_kernel.specs.State.{nobody}
 use Rattle.tm_image.specs.Image.{ImageView, entry_of, words_of}
 use Rattle.tm_system.specs.Controls.{kind_by}
@@ -24,6 +25,14 @@ pub record StepsTask (text : List ℕ) (task : ℕ) (old : MachineView) (answer 
   pub after : TaskView
   pub there : slice_get old.tasks task ≡ Some before
   pub did : Did text before answer after
+  pub rest : new ≡ record old { tasks = slice_set old.tasks task after }
+
+-- one task ran on by so many instructions, and nothing else changed
+pub record RunsTask (text : List ℕ) (task : ℕ) (old : MachineView) (n : ℕ) (new : MachineView) : Type 0 where
+  pub before : TaskView
+  pub after : TaskView
+  pub there : slice_get old.tasks task ≡ Some before
+  pub ran : RunsOn text n before after
   pub rest : new ≡ record old { tasks = slice_set old.tasks task after }
 
 -- the task stands at a call in reach of a text, and its epoch leaves room for more
@@ -66,3 +75,7 @@ switched machine from leaves =
       to_at = marker_in machine to;
     })
     else None
+
+-- how many data words each task has
+abbrev pub word_counts : List TaskView → List ℕ
+word_counts tasks = map (λ t. length t.standing.body.words) tasks

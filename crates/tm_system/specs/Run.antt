@@ -8,9 +8,9 @@ use Rattle.tm_task.specs.Exec.{Exec, Faults, Calls, Goes, exec}
 use Rattle.tm_task.specs.Standing.{boot_body, reply, args_of}
 use Rattle.tm_kernel.specs.declared.kernel.Need.{Need}
 use Rattle.tm_kernel.specs.declared.kernel.Need.TheVariants.{Goes as Continues, Leaves}
-use Rattle.tm_kernel.specs.State.{nobody, booted}
+use Rattle.tm_kernel.specs.State.{nobody, booted, stopped}
 use Rattle.tm_kernel.specs.Service.{Answered, answer}
-use Rattle.tm_kernel.specs.Schedule.{rescheduled, arrived, stopped}
+use Rattle.tm_kernel.specs.Schedule.{rescheduled, arrived}
 use Rattle.tm_image.specs.Image.{ImageView, entry_of, text_of}
 use Rattle.tm_system.specs.History.{Arrives, Steps, Answers, Faulted, Whole, Moment, History}
 

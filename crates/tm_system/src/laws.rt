@@ -2,6 +2,7 @@
 //! nothing: its clauses are the theorems.
 
 ghost use Rattle.tm_system.specs.Examples.{EndingLeaves, PreemptingLeaves};
+ghost use Rattle.tm_system.specs.Gaining.{TurnsGain, ArrivalsGain};
 ghost use Rattle.tm_system.specs.Turns.{TurnsAdd};
 
 /// The control entries of two small images, as worked by hand.
@@ -13,4 +14,10 @@ pub fn examples()
 /// So many turns, and then some more, are as many as their sum.
 pub fn turns_add_up()
     ensures { TurnsAdd }
+{}
+
+/// What is told of a moment is what the lists that a run leaves gain by it.
+pub fn lists_gain_what_is_told()
+    ensures turns { TurnsGain }
+    ensures arrivals { ArrivalsGain }
 {}

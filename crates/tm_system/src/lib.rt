@@ -9,7 +9,7 @@ mod laws;
 mod machine;
 mod runs;
 
-pub use laws::{examples, turns_add_up};
+pub use laws::{examples, lists_gain_what_is_told, turns_add_up};
 pub use machine::{Machine, Told};
 pub use runs::scripts_are_runs;
 

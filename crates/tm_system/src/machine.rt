@@ -6,10 +6,10 @@ ghost use Rattle.tm_task.specs.Standing.{begins_epoch};
 ghost use Rattle.tm_kernel.specs.State.{IsRunning, nobody, state_number};
 ghost use Rattle.tm_image.specs.Image.{ImageView, text_of};
 ghost use Rattle.tm_system.specs.History.{History};
-ghost use Rattle.tm_system.specs.Run.{arrives, turned, next_moment, body_at, left_by};
+ghost use Rattle.tm_system.specs.Run.{arrives, turned, turns, next_moment, body_at, left_by};
 ghost use Rattle.tm_system.specs.Controls.{kind_by};
-ghost use Rattle.tm_system.specs.Machine.{IsAt, IsMachine, told_of, arrival_told};
-ghost use Rattle.tm_system.specs.Parts.{AreBooted, CanAnswer, IsTaskOrNobody, StepsTask, RepliesTo, marker_in, switched};
+ghost use Rattle.tm_system.specs.Machine.{IsAt, IsMachine, IsQuiet, told_of, arrival_told};
+ghost use Rattle.tm_system.specs.Parts.{AreBooted, CanAnswer, IsTaskOrNobody, StepsTask, RunsTask, RepliesTo, marker_in, switched, word_counts};
 
 use std::alloc::{AllocError, Global};
 use std::marker::Model;
@@ -121,6 +121,37 @@ impl Machine {
         }
     }
 
+    /// Up to `most` instructions of the running task, from the image that the machine was booted
+    /// from, and how many: each goes on in its task's epoch, so that it adds to no list, and it stops
+    /// before the first that may not.
+    #[inline]
+    pub fn advance(&mut self, image: &Image, most: u32) -> u32
+        requires runs { self.old.kernel.running ≢ nobody }
+        requires image { self.old.kernel.spec ≡ image.now.spec }
+        requires epoch { IfSome (slice_get self.old.tasks self.old.kernel.running) (λ task. task.standing.epoch < 2 ^ 53) }
+        ensures within { result ≤ most }
+        ensures at { (h : History) → IsAt image.now self.old h → IsAt image.now self.new (turns image.now result h) }
+        ensures quiet { (h : History) → IsAt image.now self.old h → (i : ℕ) → i < result → IsQuiet image.now (turns image.now i h) }
+        ensures kernel { self.new.kernel ≡ self.old.kernel }
+        ensures sound { IsMachine self.new }
+    {
+        let task = self.kernel.running();
+        // An image has a text for each task of its kernel's specification.
+        let _tasks = image.tasks();
+        self.run_on(task, image.text(task), most)
+    }
+
+    /// Makes the machine another of an equal image.
+    pub fn copy_from(&mut self, other: &Machine)
+        requires spec { self.old.kernel.spec ≡ other.now.kernel.spec }
+        requires words { word_counts self.old.tasks ≡ word_counts other.now.tasks }
+        ensures copied { self.new ≡ other.now }
+        ensures sound { IsMachine self.new }
+    {
+        copy_tasks(&other.tasks, &mut self.tasks);
+        self.kernel.copy_from(&other.kernel);
+    }
+
     /// The task of a number.
     pub fn task(&self, number: u8) -> &Task
         requires { number < length self.now.tasks }
@@ -173,6 +204,20 @@ impl Machine {
         ensures { StepsTask text.now task self.old result self.new }
     {
         self.tasks[usize::from(task)].step(text)
+    }
+
+    /// Up to `most` instructions of a task by its text, and how many.
+    #[inline]
+    fn run_on(&mut self, task: u8, text: &[u32], most: u32) -> u32
+        requires there { task < length self.old.tasks }
+        requires some { 0 < length text.now }
+        requires few { length text.now ≤ 16384 }
+        requires epoch { IfSome (slice_get self.old.tasks task) (λ t. t.standing.epoch < 2 ^ 53) }
+        ensures within { result ≤ most }
+        ensures ran { RunsTask text.now task self.old result self.new }
+        ensures sound { IsMachine self.new }
+    {
+        self.tasks[usize::from(task)].advance(text, most)
     }
 
     /// Answers the running task's call of a service; a rescheduling follows.
@@ -298,6 +343,17 @@ fn booted_tasks(alloc: Global, image: &Image) -> Result<Vec<Task>, AllocError>
         tasks.push(Task::new(alloc, image.entry(number), image.words(number))?)?;
     }
     Ok(tasks)
+}
+
+/// Makes every task the other one of its number.
+fn copy_tasks(from: &[Task], into: &mut [Task])
+    requires { word_counts into.old ≡ word_counts from.now }
+    ensures { into.new ≡ from.now }
+{
+    for number in 0..from.len() {
+        let task = &mut into[number];
+        task.copy_from(&from[number]);
+    }
 }
 
 /// Why control goes on: nobody ran, the task left by itself, or it was preempted.

@@ -1,16 +1,19 @@
-use Rattle.std.proofs.Common.{◌≡◌, ℕ, ◌<◌, Bool, true, false, refl, ap, sym, ◌∙◌, subst, arith, length, get_or, Some, slice_get, if◌then◌else◌, None}
+use Rattle.std.proofs.Common.{◌≡◌, ℕ, List, ◌<◌, Bool, true, false, refl, ap, sym, ◌∙◌, subst, arith, length, get_or, Some, slice_get, if◌then◌else◌, None}
 use Rattle.std.proofs.lemmas.Option.{slice_get_read}
 use Rattle.std.specs.Bool.{then_some}
 use Rattle.tm_task.specs.Standing.{begins_epoch}
 use Rattle.tm_kernel.specs.declared.kernel.Need.{Need}
-use Rattle.tm_kernel.specs.State.{IsRunning}
+use Rattle.tm_kernel.specs.State.{KernelState, IsRunning}
+use Rattle.tm_kernel.specs.Service.{answer}
 use Rattle.tm_kernel.specs.Schedule.{rescheduled}
+use Rattle.tm_kernel.proofs.Answering.{call_same_rest}
+use Rattle.tm_kernel.proofs.Rescheduling.{rescheduling_same_rest}
 use Rattle.tm_image.specs.Image.{ImageView}
 use Rattle.tm_system.specs.declared.machine.Told.{Told}
 use Rattle.tm_system.specs.History.{History}
 use Rattle.tm_system.specs.Run.{left_by}
 use Rattle.tm_system.specs.Machine.{MachineView, IsAt}
-use Rattle.tm_system.proofs.Turning.{Runs, runs_of}
+use Rattle.tm_system.proofs.Turning.{Runs, runs_of, sound_after}
 use Rattle.tm_system.proofs.Calling.{IsCalled, called_at, called_told, called_spec}
 use Rattle.tm_system.proofs.machine.Machine.answer.Goals as goal
 use Rattle.tm_system.proofs.machine.Machine.answer.Goals.{After-nothing}
@@ -18,6 +21,15 @@ use Rattle.tm_system.proofs.machine.Machine.answer.Goals.{After-nothing}
 then_some_is : (b : Bool) (x : ℕ) → then_some b x ≡ (if b then Some x else None)
 then_some_is true x = refl
 then_some_is false x = refl
+
+-- a call and a rescheduling leave the specification
+called_spec_is : (k after : KernelState) (task service : ℕ) (args : List ℕ) → after ≡ (answer k task service args).kernel →
+    after.spec ≡ k.spec
+called_spec_is k after task service args e =
+    ap (λ (k : KernelState). k.spec) e ∙ (call_same_rest k task service args).spec
+
+rescheduled_spec_is : (k after : KernelState) → after ≡ rescheduled k → after.spec ≡ k.spec
+rescheduled_spec_is k after e = ap (λ (k : KernelState). k.spec) e ∙ (rescheduling_same_rest k).spec
 
 -- the machine before, and after
 abbrev old : After-nothing → MachineView
@@ -79,3 +91,27 @@ returns-clause-spec c =
     called_spec (old c) c.reply-begins.new.self (new c) c.args.task c.args.service c.index.result.now
     c.args-args.result c.call-answer.new.self c.call-answer.result.entry (called c) ∙
     ap (λ (m : MachineView). m.kernel.spec) c.self.view_is
+
+pub invariant_of-self : goal.invariant_of-self
+invariant_of-self c =
+    let inside : MachineView = record { tasks = c.self.inside.tasks.items; kernel = c.self.inside.kernel } in
+    let after : MachineView = record { tasks = c.self.inside.tasks.items; kernel = c.call-answer.new.self } in
+    sound_after inside after c.self.invariant refl
+    (called_spec_is inside.kernel after.kernel c.args.task c.args.service c.args-args.result c.call-answer.ensures.kernel)
+    c.call-answer.ensures.sound
+
+pub invariant_of-self-2 : goal.invariant_of-self-2
+invariant_of-self-2 c =
+    let inside : MachineView = record { tasks = c.self-2.inside.tasks.items; kernel = c.self-2.inside.kernel } in
+    let after : MachineView = record { tasks = c.self-2.inside.tasks.items; kernel = c.reschedule.new.self } in
+    sound_after inside after c.self-2.invariant refl
+    (rescheduled_spec_is inside.kernel after.kernel c.reschedule.ensures.rescheduled)
+    c.reschedule.ensures.sound
+
+pub returns-clause-sound : goal.returns-clause-sound
+returns-clause-sound c =
+    let inside : MachineView = record { tasks = c.self-2.inside.tasks.items; kernel = c.self-2.inside.kernel } in
+    let after : MachineView = record { tasks = c.self-2.inside.tasks.items; kernel = c.reschedule.new.self } in
+    sound_after inside after c.self-2.invariant refl
+    (rescheduled_spec_is inside.kernel after.kernel c.reschedule.ensures.rescheduled)
+    c.reschedule.ensures.sound

@@ -1,6 +1,5 @@
 use Rattle.std.proofs.Common.{ap, sym, ◌∙◌, subst, true, ◌∷◌, ◌==◌, length}
-use Rattle.tm_kernel.specs.State.{KernelState, nobody}
-use Rattle.tm_kernel.specs.Schedule.{stopped}
+use Rattle.tm_kernel.specs.State.{KernelState, nobody, stopped}
 use Rattle.tm_system.specs.declared.machine.Told.{Told}
 use Rattle.tm_system.specs.Run.{next_moment}
 use Rattle.tm_system.specs.Machine.{MachineView, IsAt, IsMachine}
