@@ -1,0 +1,10 @@
+pub mod Lists
+pub mod Counts
+pub mod Bodies
+pub mod Playing
+pub mod Moments
+pub mod Ending
+pub mod Scripts
+pub mod Functions
+pub mod Consistent
+mod Copying

@@ -1,0 +1,5 @@
+pub mod Window
+pub mod StandsFor
+pub mod Recording
+pub mod Contents
+pub mod Laws

@@ -1,0 +1,9 @@
+//! Laws of every recorder. Each function here does nothing: its clauses are the laws.
+
+ghost use Rattle.tm_record.specs.Laws.{TotalsAreBounded, RecordersAreOfTheirImage};
+
+/// After so many slices no list is longer than they could make it, and each recorder is of its image.
+pub fn recorders_are_consistent()
+    ensures bounded { TotalsAreBounded }
+    ensures image { RecordersAreOfTheirImage }
+{}
