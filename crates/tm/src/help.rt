@@ -15,7 +15,9 @@ A status other than 0 is told by one line on standard error.
     0   the text was printed
     2   the words are of no form above
     3   a file can't be read
+    4   the image is refused, by its first bad line
+    5   the plan is refused, by its first bad line
     9   standard output takes no more bytes
+    10  the first or the second file is longer than its limit
     11  there is not enough memory
-    12  the first or the second file is not of the form that is read
 ";

@@ -1,8 +1,8 @@
 pub mod Gains
-pub mod Scripts
 pub mod TellerSteps
 pub mod Endings
 pub mod Noting
 pub mod Starting
 pub mod Playing
 pub mod Traced
+pub mod Stretching

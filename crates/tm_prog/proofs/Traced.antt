@@ -10,12 +10,12 @@ use Rattle.tm_image.specs.Image.{ImageView}
 use Rattle.tm_image.specs.Plan.{IsSlice}
 use Rattle.tm_system.specs.declared.machine.Told.{Told}
 use Rattle.tm_system.specs.History.{Moment, History}
-use Rattle.tm_system.specs.Run.{now, running_at, arrival, arrives, next_moment, turned, turns, run}
+use Rattle.tm_system.specs.Run.{now, running_at, arrival, arrives, next_moment, turned, run}
 use Rattle.tm_system.specs.Controls.{is_switch}
 use Rattle.tm_system.specs.Machine.{MachineView, IsAt, IsMachine, told_of, told_nothing, arrival_told}
 use Rattle.tm_system.specs.Parts.{IsTaskOrNobody}
 use Rattle.tm_system.proofs.Texts.{controls_few}
-use Rattle.tm_system.proofs.Lengths.{epochs_few, turns_short, arrives_short, played_short}
+use Rattle.tm_system.proofs.Lengths.{epochs_few, arrives_short, played_short}
 use Rattle.tm_prog.specs.Teller.{TellerView, Tells, Notes}
 use Rattle.tm_prog.specs.Tracing.{IsTraced, IsYoung}
 use Rattle.tm_prog.proofs.Noting.{noted, next_own, is_there}
@@ -138,9 +138,3 @@ slice_arrived image slices i n mask ports machine teller sliced there few short 
   traced = tr;
   few = omega (arith, script_few image slices i sliced there few, arrives_short image mask ports (run image (take i slices)));
 }
-
--- in the midst of instructions
-pub turns_young : (image : ImageView) (h : History) (i n : ℕ) (machine : MachineView) (teller : TellerView) →
-    length h + n + 1 < 2 ^ 53 → i < n → IsTraced image (turns image i h) machine teller → IsYoung image machine teller 0
-turns_young image h i n machine teller few within tr =
-    record { history = turns image i h; traced = tr; few = omega (arith, turns_short image i h) }

@@ -1,11 +1,12 @@
 -- The plain answer to a command: what the contents of the named files alone decide.
-use Rattle.std.specs.Prelude.{ℕ, nat_le, length, if◌then◌else◌, List, Option, Some, None}
+use Rattle.std.specs.Prelude.{ℕ, nat_le, length, if◌then◌else◌, List, Option, Some, None, Result, Ok, Err}
 use Rattle.tm_marker.specs.declared.entries.Slice.{Slice}
+use Rattle.tm_image.specs.declared.fault.Fault.{Fault}
 use Rattle.tm_image.specs.Image.{ImageView, image_of}
 use Rattle.tm_image.specs.Plan.{plan_of}
 use Rattle.tm_system.specs.Telling.{text_of_run}
 use Rattle.tm_prog.specs.declared.status.Status.{Status}
-use Rattle.tm_prog.specs.declared.status.Status.TheVariants.{Words, NotBuilt}
+use Rattle.tm_prog.specs.declared.status.Status.TheVariants.{Words, Image, Plan, TooLong}
 use Rattle.tm_prog.specs.declared.limits.TheConstants.{IMAGE_LIMIT, PLAN_LIMIT}
 use Rattle.tm_prog.specs.Command.{Command, Trace}
 
@@ -14,18 +15,28 @@ pub data Plain : Type 0 where
   Refused : (status : Status) → Plain
   Printed : (text : List ℕ) → Plain
 
--- the image that a file within the limit holds
-abbrev pub image_in : List ℕ → Option ImageView
-image_in bytes = if nat_le (length bytes) IMAGE_LIMIT then image_of bytes else None
+-- the image, or the refusal of its text
+abbrev pub image_said : Result ImageView Fault → Result ImageView Status
+image_said (Ok image) = Ok image
+image_said (Err fault) = Err (Image fault)
 
--- the script that a file within the limit holds
-abbrev pub script_in : List ℕ → Option (List Slice)
-script_in bytes = if nat_le (length bytes) PLAN_LIMIT then plan_of bytes else None
+-- the image in the first file, or the refusal of the file
+abbrev pub image_in : List ℕ → Result ImageView Status
+image_in bytes = if nat_le (length bytes) IMAGE_LIMIT then image_said (image_of bytes) else Err (TooLong 1)
+
+-- the slices, or the refusal of the plan's text
+abbrev pub script_said : Result (List Slice) Fault → Result (List Slice) Status
+script_said (Ok script) = Ok script
+script_said (Err fault) = Err (Plan fault)
+
+-- the script in the second file, or the refusal of the file
+abbrev pub script_in : List ℕ → Result (List Slice) Status
+script_in bytes = if nat_le (length bytes) PLAN_LIMIT then script_said (plan_of bytes) else Err (TooLong 2)
 
 -- with the image read, the plan decides: its text is the whole run's, from boot
-abbrev pub with_script : ImageView → Option (List Slice) → Plain
-with_script image None = Refused (NotBuilt 2)
-with_script image (Some script) = Printed (text_of_run image script 0)
+abbrev pub with_script : ImageView → Result (List Slice) Status → Plain
+with_script image (Err status) = Refused status
+with_script image (Ok script) = Printed (text_of_run image script 0)
 
 -- with the image read, where the plan's file is there
 abbrev pub with_plan : ImageView → Option (List ℕ) → Option Plain
@@ -33,9 +44,9 @@ with_plan image None = None
 with_plan image (Some bytes) = Some (with_script image (script_in bytes))
 
 -- the first file is read first, and refused before the second is got
-abbrev pub with_image : Option ImageView → Option (List ℕ) → Option Plain
-with_image None plan = Some (Refused (NotBuilt 1))
-with_image (Some image) plan = with_plan image plan
+abbrev pub with_image : Result ImageView Status → Option (List ℕ) → Option Plain
+with_image (Err status) plan = Some (Refused status)
+with_image (Ok image) plan = with_plan image plan
 
 -- the answer to `trace`, where the files that it needs are there
 abbrev pub trace_answer : Option (List ℕ) → Option (List ℕ) → Option Plain

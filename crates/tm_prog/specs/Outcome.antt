@@ -21,7 +21,9 @@ Answers status.WriteFault before now plain =
 Answers status.ReadFault before now plain = now ≡ before
 Answers status.Memory before now plain = now ≡ before
 Answers status.Words before now plain = (plain ≡ Some (Refused status.Words)) × (now ≡ before)
-Answers (status.NotBuilt file) before now plain = (plain ≡ Some (Refused (status.NotBuilt file))) × (now ≡ before)
+Answers (status.Image fault) before now plain = (plain ≡ Some (Refused (status.Image fault))) × (now ≡ before)
+Answers (status.Plan fault) before now plain = (plain ≡ Some (Refused (status.Plan fault))) × (now ≡ before)
+Answers (status.TooLong file) before now plain = (plain ≡ Some (Refused (status.TooLong file))) × (now ≡ before)
 
 -- no count of the shelf or of the sink rose in the call
 abbrev pub NoneRose : ℕ → ℕ → ℕ → ℕ → Type 0

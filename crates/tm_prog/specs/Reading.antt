@@ -1,7 +1,8 @@
 -- What the reading of words and files gives to the rest of a call, and what it leaves as it was.
-use Rattle.std.specs.Prelude.{◌≡◌, ℕ, ◌≤◌, Bool, List, Option}
-use Rattle.tm_image.specs.declared.unread.Unread.{Unread}
-use Rattle.tm_image.specs.declared.unread.Unread.TheVariants as unread
+use Rattle.std.specs.Prelude.{◌≡◌, ◌≢◌, ℕ, ◌≤◌, Bool, List, Option}
+use Rattle.tm_image.specs.declared.fault.Fault.{Fault}
+use Rattle.tm_image.specs.declared.fault.Reason.{Reason}
+use Rattle.tm_image.specs.declared.fault.Reason.TheVariants as reason
 use Rattle.tm_prog.specs.declared.status.Status.{Status}
 use Rattle.tm_prog.specs.declared.status.Status.TheVariants as status
 use Rattle.tm_prog.specs.declared.words.Form.{Form}
@@ -21,16 +22,34 @@ pub record OnlyGets {S : Type 0} (tells : S → Bool) (content : S → List ℕ 
   pub calm_stays : calm new ≡ calm old
   pub rooms_stay : (name : List ℕ) → room new name ≡ room old name
 
--- the file with this number was not read
-abbrev pub IsUnreadOf : ℕ → Status → Type 0
-IsUnreadOf number status.Ok = ⊥
-IsUnreadOf number status.Words = ⊥
-IsUnreadOf number status.ReadFault = Unit {0}
-IsUnreadOf number (status.NotBuilt file) = file ≡ number
-IsUnreadOf number status.WriteFault = ⊥
-IsUnreadOf number status.Memory = Unit {0}
+-- the file with this number could not be got
+abbrev pub IsGetFaultOf : ℕ → Status → Type 0
+IsGetFaultOf number status.ReadFault = Unit {0}
+IsGetFaultOf number (status.TooLong file) = file ≡ number
+IsGetFaultOf number status.Memory = Unit {0}
+IsGetFaultOf number _ = ⊥
 
--- the status for the file with this number, whose bytes were not read
-abbrev pub unread_status : Unread → ℕ → Status
-unread_status unread.NotSmall number = status.NotBuilt number
-unread_status unread.Memory number = status.Memory
+-- the status says what the file with this number holds, or that it could not be read; a text is never
+-- refused for want of memory
+abbrev pub IsUnreadOf : ℕ → Status → Type 0
+IsUnreadOf number status.ReadFault = Unit {0}
+IsUnreadOf number (status.Image fault) = (number ≡ 1) × (fault.reason ≢ reason.Memory)
+IsUnreadOf number (status.Plan fault) = (number ≡ 2) × (fault.reason ≢ reason.Memory)
+IsUnreadOf number (status.TooLong file) = file ≡ number
+IsUnreadOf number status.Memory = Unit {0}
+IsUnreadOf number _ = ⊥
+
+-- the status is a fault of reading or want of memory, or it says this
+abbrev pub Unless : Status → Type 0 → Type 0
+Unless status.ReadFault said = Unit {0}
+Unless status.Memory said = Unit {0}
+Unless _ said = said
+
+-- the status for a text that was refused
+abbrev pub image_status : Fault → Reason → Status
+image_status fault reason.Memory = status.Memory
+image_status fault _ = status.Image fault
+
+abbrev pub plan_status : Fault → Reason → Status
+plan_status fault reason.Memory = status.Memory
+plan_status fault _ = status.Plan fault

@@ -1,5 +1,8 @@
 -- The numbers and the lines of the statuses.
 use Rattle.std.specs.Prelude.{ℕ, List, [], ◌∷◌, ◌++◌, codes, decimal}
+use Rattle.tm_image.specs.declared.fault.Fault.{Fault}
+use Rattle.tm_image.specs.declared.fault.Reason.{Reason}
+use Rattle.tm_image.specs.declared.fault.Reason.TheVariants as reason
 use Rattle.tm_prog.specs.declared.status.Status.{Status}
 use Rattle.tm_prog.specs.declared.status.Status.TheVariants as status
 
@@ -8,15 +11,34 @@ abbrev pub code_of : Status → ℕ
 code_of status.Ok = 0
 code_of status.Words = 2
 code_of status.ReadFault = 3
-code_of (status.NotBuilt file) = 12
+code_of (status.Image fault) = 4
+code_of (status.Plan fault) = 5
 code_of status.WriteFault = 9
+code_of (status.TooLong file) = 10
 code_of status.Memory = 11
+
+-- the name of a reason
+abbrev pub reason_name : Reason → List ℕ
+reason_name reason.Form = codes "form"
+reason_name reason.Number = codes "number"
+reason_name reason.Range = codes "range"
+reason_name reason.Repeated = codes "repeated"
+reason_name reason.Missing = codes "missing"
+reason_name reason.Limit = codes "limit"
+reason_name reason.Memory = codes "memory"
+
+-- the line of a refused text: what it was to be, the line's number, and the reason
+abbrev pub refusal_line : List ℕ → Fault → List ℕ
+refusal_line kind fault =
+    codes "tm: " ++ kind ++ codes " line " ++ decimal fault.line ++ codes " " ++ reason_name fault.reason ++ 10 ∷ []
 
 -- the line on standard error; Ok has none
 abbrev pub line_of : Status → List ℕ
 line_of status.Ok = []
 line_of status.Words = codes "tm: words" ++ 10 ∷ []
 line_of status.ReadFault = codes "tm: read fault" ++ 10 ∷ []
-line_of (status.NotBuilt file) = codes "tm: not built " ++ decimal file ++ 10 ∷ []
+line_of (status.Image fault) = refusal_line (codes "image") fault
+line_of (status.Plan fault) = refusal_line (codes "plan") fault
+line_of (status.TooLong file) = codes "tm: too long " ++ decimal file ++ 10 ∷ []
 line_of status.WriteFault = codes "tm: write fault" ++ 10 ∷ []
 line_of status.Memory = codes "tm: memory" ++ 10 ∷ []

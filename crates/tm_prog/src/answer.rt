@@ -1,10 +1,10 @@
 //! The text that a command prints.
 
-ghost use Rattle.std.specs.Prelude.{◌≡◌, ◌≢◌, ℕ, ◌⊎◌, Some, IsTrue, IsSome, IfOk, IfErr};
+ghost use Rattle.std.specs.Prelude.{◌≡◌, ◌≢◌, ◌⊎◌, Some, IsTrue, IsSome, IfOk, IfErr};
 ghost use Rattle.tm_io.specs.Counts.{Rose};
 ghost use Rattle.tm_prog.specs.declared.status.Status.{Status};
 ghost use Rattle.tm_prog.specs.Answer.{Refused, Printed, trace_answer};
-ghost use Rattle.tm_prog.specs.Reading.{OnlyGets, IsUnreadOf};
+ghost use Rattle.tm_prog.specs.Reading.{OnlyGets, IsUnreadOf, Unless};
 
 use crate::Status;
 use crate::files::{image_file, plan_file};
@@ -24,10 +24,9 @@ pub(crate) fn trace_text<F: Shelf>(
         IfOk result (λ text.
         trace_answer (F.content shelf.old image.now) (F.content shelf.old plan.now)
         ≡ Some (Printed text.items)) }
-    ensures refused { IsTrue (F.tells shelf.old) → (file : ℕ) →
-        result ≡ Err (Status.NotBuilt file) →
-        trace_answer (F.content shelf.old image.now) (F.content shelf.old plan.now)
-        ≡ Some (Refused (Status.NotBuilt file)) }
+    ensures refused { IsTrue (F.tells shelf.old) →
+        IfErr result (λ status. Unless status
+        (trace_answer (F.content shelf.old image.now) (F.content shelf.old plan.now) ≡ Some (Refused status))) }
     ensures only { IfErr result (λ status. IsUnreadOf 1 status ⊎ IsUnreadOf 2 status) }
     ensures counted { result ≡ Err Status.ReadFault → Rose (F.gets shelf.old) (F.gets shelf.new) }
     ensures calm { IsTrue (F.tells shelf.old) → IsTrue (F.calm shelf.old) →

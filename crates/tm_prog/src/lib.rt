@@ -7,6 +7,8 @@
 
 ghost use Rattle.std.specs.Prelude.{◌≡◌, ◌≢◌, ℕ, ◌≤◌, ◌⊎◌, ◌↔◌, List, Some, None, IsTrue, IsSome};
 ghost use Rattle.tm_io.specs.Counts.{Rose};
+ghost use Rattle.tm_image.specs.declared.fault.Fault.{Fault};
+ghost use Rattle.tm_image.specs.declared.fault.Reason.{Reason};
 ghost use Rattle.tm_prog.specs.declared.status.Status.{Status};
 ghost use Rattle.tm_prog.specs.Answer.{Printed, answer_of};
 ghost use Rattle.tm_prog.specs.Command.{command_of, texts};
@@ -42,7 +44,10 @@ pub fn tm<F: Shelf, K: Sink>(alloc: Global, words: &[String], shelf: &mut F, out
     ensures answer { IsTrue (F.tells shelf.old) →
         Answers result (K.bytes out.old) (K.bytes out.new)
         (answer_of (command_of (texts words.now)) (F.content shelf.old)) }
-    ensures files { (file : ℕ) → result ≡ Status.NotBuilt file → (file ≡ 1) ⊎ (file ≡ 2) }
+    ensures files { (file : ℕ) → result ≡ Status.TooLong file → (file ≡ 1) ⊎ (file ≡ 2) }
+    // Want of memory in a reading is the status Memory, and no refusal of the text.
+    ensures image_reasons { (fault : Fault) → result ≡ Status.Image fault → fault.reason ≢ Reason.Memory }
+    ensures plan_reasons { (fault : Fault) → result ≡ Status.Plan fault → fault.reason ≢ Reason.Memory }
 
     // A fault is answered only where its count rose in this call.
     ensures read { result ≡ Status.ReadFault → Rose (F.gets shelf.old) (F.gets shelf.new) }

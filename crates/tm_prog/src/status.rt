@@ -1,10 +1,11 @@
 //! How a call of the program ended.
 
-ghost use Rattle.std.specs.Prelude.{◌≡◌, ◌++◌, OnOk, OnErr};
+ghost use Rattle.std.specs.Prelude.{◌≡◌, ◌++◌, codes, OnOk, OnErr};
 ghost use Rattle.tm_prog.specs.declared.status.Status.{Status};
-ghost use Rattle.tm_prog.specs.Status.{code_of, line_of};
+ghost use Rattle.tm_prog.specs.Status.{code_of, line_of, reason_name, refusal_line};
 
 use std::alloc::AllocError;
+use tm_image::{ImageFault, PlanFault, Reason};
 
 /// How a call of the program ended.
 #[derive(Clone, Copy, Debug, PartialEq, Eq)]
@@ -15,10 +16,14 @@ pub enum Status {
     Words,
     /// A file could not be read.
     ReadFault,
-    /// The file with this number, from 1, is longer than its limit or is not built as it should be.
-    NotBuilt(u8),
+    /// The image's text is refused, by its first bad line.
+    Image(ImageFault),
+    /// The plan's text is refused, by its first bad line.
+    Plan(PlanFault),
     /// The text could not be written.
     WriteFault,
+    /// The file with this number, from 1, is longer than its limit.
+    TooLong(u8),
     /// Want of memory.
     Memory,
 }
@@ -32,9 +37,11 @@ impl Status {
             Status::Ok => 0,
             Status::Words => 2,
             Status::ReadFault => 3,
+            Status::Image(_) => 4,
+            Status::Plan(_) => 5,
             Status::WriteFault => 9,
+            Status::TooLong(_) => 10,
             Status::Memory => 11,
-            Status::NotBuilt(_) => 12,
         }
     }
 
@@ -47,27 +54,60 @@ impl Status {
             Status::Ok => Ok(()),
             Status::Words => into.extend_from_slice(b"tm: words\n"),
             Status::ReadFault => into.extend_from_slice(b"tm: read fault\n"),
-            Status::NotBuilt(file) => line_of_not_built(*file, into),
+            Status::Image(fault) => refusal_line("image", fault, into),
+            Status::Plan(fault) => refusal_line("plan", fault, into),
             Status::WriteFault => into.extend_from_slice(b"tm: write fault\n"),
+            Status::TooLong(file) => too_long_line(*file, into),
             Status::Memory => into.extend_from_slice(b"tm: memory\n"),
         }
     }
 }
 
-/// Appends the line of [`Status::NotBuilt`].
-fn line_of_not_built(file: u8, into: &mut Vec<u8>) -> Result<(), AllocError>
-    ensures ok { OnOk result (into.new.items ≡ into.old.items ++ line_of (Status.NotBuilt file)) }
+/// Appends the line of a refused text.
+fn refusal_line(kind: &str, fault: &ImageFault, into: &mut Vec<u8>) -> Result<(), AllocError>
+    ensures ok { OnOk result (into.new.items ≡ into.old.items ++ refusal_line kind.now fault.now) }
     ensures err { OnErr result (into.new.items ≡ into.old.items) }
 {
     let alloc = *into.allocator();
-    let line = format!(in alloc; "tm: not built {file}\n")?;
+    let reason = reason_name(fault.reason);
+    let line = format!(in alloc; "tm: {kind} line {} {reason}\n", fault.line)?;
     into.extend_from_slice(line.as_bytes())
+}
+
+/// Appends the line of [`Status::TooLong`].
+fn too_long_line(file: u8, into: &mut Vec<u8>) -> Result<(), AllocError>
+    ensures ok { OnOk result (into.new.items ≡ into.old.items ++ line_of (Status.TooLong file)) }
+    ensures err { OnErr result (into.new.items ≡ into.old.items) }
+{
+    let alloc = *into.allocator();
+    let line = format!(in alloc; "tm: too long {file}\n")?;
+    into.extend_from_slice(line.as_bytes())
+}
+
+/// The name of a reason, in lower case.
+fn reason_name(reason: Reason) -> &'static str
+    ensures { result.now ≡ reason_name reason }
+{
+    match reason {
+        Reason::Form => "form",
+        Reason::Number => "number",
+        Reason::Range => "range",
+        Reason::Repeated => "repeated",
+        Reason::Missing => "missing",
+        Reason::Limit => "limit",
+        Reason::Memory => "memory",
+    }
 }
 
 #[cfg(test)]
 mod tests {
     use super::*;
     use std::test::Fail;
+
+    const REFUSED: ImageFault = ImageFault {
+        line: 4_294_967_295,
+        reason: Reason::Repeated,
+    };
 
     #[test]
     fn each_status_but_ok_has_its_line(rt: HostRuntime) -> Result<(), Fail> {
@@ -76,15 +116,20 @@ mod tests {
             Status::Ok,
             Status::Words,
             Status::ReadFault,
-            Status::NotBuilt(2),
+            Status::Image(REFUSED),
+            Status::Plan(PlanFault {
+                line: 2,
+                reason: Reason::Form,
+            }),
             Status::WriteFault,
+            Status::TooLong(2),
             Status::Memory,
         ] {
             status.line(&mut lines)?;
         }
         assert_eq!(rt;
             lines.as_slice(),
-            b"tm: words\ntm: read fault\ntm: not built 2\ntm: write fault\ntm: memory\n".as_slice()
+            b"tm: words\ntm: read fault\ntm: image line 4294967295 repeated\ntm: plan line 2 form\ntm: write fault\ntm: too long 2\ntm: memory\n".as_slice()
         );
         Ok(())
     }
@@ -94,8 +139,10 @@ mod tests {
         assert_eq!(rt; Status::Ok.code(), 0);
         assert_eq!(rt; Status::Words.code(), 2);
         assert_eq!(rt; Status::ReadFault.code(), 3);
+        assert_eq!(rt; Status::Image(REFUSED).code(), 4);
+        assert_eq!(rt; Status::Plan(REFUSED).code(), 5);
         assert_eq!(rt; Status::WriteFault.code(), 9);
+        assert_eq!(rt; Status::TooLong(1).code(), 10);
         assert_eq!(rt; Status::Memory.code(), 11);
-        assert_eq!(rt; Status::NotBuilt(1).code(), 12);
     }
 }

@@ -3,6 +3,7 @@
 use super::*;
 use std::alloc::AllocError;
 use std::test::Fail;
+use tm_image::{ImageFault, PlanFault, Reason};
 use tm_io::{MemShelf, MemSink};
 
 const IMAGE: &[u8] = b"tmi 1\ntask 0 basic 1 auto 0 1\ntext 0 00200893 00000073\n";
@@ -77,11 +78,17 @@ fn refusals_print_nothing(rt: HostRuntime) -> Result<(), Fail> {
     );
     assert_eq!(rt;
         answered(rt.alloc(), "trace p none", &mut out)?,
-        Status::NotBuilt(1)
+        Status::Image(ImageFault {
+            line: 1,
+            reason: Reason::Form
+        })
     );
     assert_eq!(rt;
         answered(rt.alloc(), "trace i i", &mut out)?,
-        Status::NotBuilt(2)
+        Status::Plan(PlanFault {
+            line: 1,
+            reason: Reason::Form
+        })
     );
     assert_eq!(rt; out.bytes(), b"".as_slice());
     Ok(())

@@ -1,6 +1,6 @@
 //! The whole run of a plan on an image, as text.
 
-ghost use Rattle.std.specs.Prelude.{◌≡◌, ◌≢◌, ◌+◌, ◌^◌, ◌<◌, length, take, All, IfOk, OnOk};
+ghost use Rattle.std.specs.Prelude.{◌≡◌, ◌≢◌, ◌+◌, ◌^◌, ◌<◌, ◌≤◌, length, take, All, IfOk, OnOk};
 ghost use Rattle.tm_kernel.specs.State.{nobody};
 ghost use Rattle.tm_image.specs.Plan.{IsSlice};
 ghost use Rattle.tm_system.specs.History.{History};
@@ -60,13 +60,37 @@ fn instructions(
     requires young { IsYoung image.now machine.old teller.old most }
     ensures { (h : History) → IsTraced image.now h machine.old teller.old → OnOk result (IsTraced image.now (turns image.now most h) machine.new teller.new) }
 {
-    for _turn in 0..most {
-        if machine.running() == NOBODY {
-            break;
-        }
-        instruction(alloc, image, machine, teller)?;
+    let mut done = 0;
+    while done < most && machine.running() != NOBODY {
+        done += stretch(alloc, image, most - done, machine, teller)?;
     }
     Ok(())
+}
+
+/// One stretch of the running task, and how many instructions it has, 1 to `most`: those that add
+/// nothing to the text, and the next one.
+#[inline]
+fn stretch(
+    alloc: Global,
+    image: &Image,
+    most: u32,
+    machine: &mut Machine,
+    teller: &mut Teller,
+) -> Result<u32, AllocError>
+    requires some { 0 < most }
+    requires runs { machine.old.kernel.running ≢ nobody }
+    requires young { IsYoung image.now machine.old teller.old most }
+    ensures some { IfOk result (λ n. 0 < n) }
+    ensures within { IfOk result (λ n. n ≤ most) }
+    ensures traced { (h : History) → IsTraced image.now h machine.old teller.old →
+        IfOk result (λ n. IsTraced image.now (turns image.now n h) machine.new teller.new) }
+{
+    let went = machine.advance(image, most);
+    if went == most {
+        return Ok(went);
+    }
+    instruction(alloc, image, machine, teller)?;
+    Ok(went + 1)
 }
 
 /// The arrival of a slice, and what it adds to the text.
