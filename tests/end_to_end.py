@@ -1,8 +1,10 @@
 #!/usr/bin/env python3
 """Runs the built program over real files and compares its status, standard output and standard error.
 
-The cases stand in tests/cases: NAME.tmi and NAME.tmplan with the text that they print, NAME.out. Beside
-them the calls that are refused are written out below. The last line is 'N passed, M failed'."""
+The cases stand in tests/cases: NAME.tmi and NAME.tmplan with the text that they print, NAME.out; and in
+tests/traces, a folder each, whose steps.tsv has a line for each call: the words, the exit status, the file
+with standard output or -, the line on standard error or -. All of them were made by an independent model.
+Beside them the calls that are refused are written out below. The last line is 'N passed, M failed'."""
 import os
 import subprocess
 import sys
@@ -11,6 +13,7 @@ import tempfile
 top = os.path.dirname(os.path.dirname(os.path.abspath(__file__)))
 program = os.path.join(top, "crates", "tm", "out", "tm")
 cases = os.path.join(top, "tests", "cases")
+traces = os.path.join(top, "tests", "traces")
 passed = failed = 0
 
 
@@ -36,6 +39,9 @@ def check_refusals(folder):
     """Words, missing files, folders, and files that are not of their form, in a folder with an image and a plan."""
     with open(os.path.join(folder, "not.tmi"), "wb") as file:
         file.write(b"\x7fELF\x00\xff\n")
+    for name, length in (("full.tmi", 8 * 1024 * 1024), ("long.tmi", 8 * 1024 * 1024 + 1)):
+        with open(os.path.join(folder, name), "wb") as file:
+            file.write(b"\n" * length)
     os.mkdir(os.path.join(folder, "a_folder"))
     image, plan = "good.tmi", "good.tmplan"
     refused = [
@@ -51,12 +57,24 @@ def check_refusals(folder):
         ("a missing plan", ["trace", image, "missing.tmplan"], 3, "tm: read fault"),
         ("a folder as the image", ["trace", "a_folder", plan], 3, "tm: read fault"),
         ("a folder as the plan", ["trace", image, "a_folder"], 3, "tm: read fault"),
-        ("an image that is none", ["trace", "not.tmi", plan], 12, "tm: not built 1"),
-        ("a plan that is none", ["trace", image, "not.tmi"], 12, "tm: not built 2"),
-        ("the image's refusal before the plan's", ["trace", "not.tmi", "missing.tmplan"], 12, "tm: not built 1"),
+        ("an image that is none", ["trace", "not.tmi", plan], 4, "tm: image line 1 form"),
+        ("a plan that is none", ["trace", image, "not.tmi"], 5, "tm: plan line 1 form"),
+        ("the image's refusal before the plan's", ["trace", "not.tmi", "missing.tmplan"], 4, "tm: image line 1 form"),
+        ("an image past 8 MiB", ["trace", "long.tmi", plan], 10, "tm: too long 1"),
+        ("an image of 8 MiB without a task", ["trace", "full.tmi", plan], 4, "tm: image line 8388609 missing"),
     ]
     for what, words, status, err in refused:
         check(what, words, status, b"", err, folder)
+
+
+def check_steps(name):
+    """Each call of a folder of tests/traces."""
+    folder = os.path.join(traces, name)
+    with open(os.path.join(folder, "steps.tsv"), encoding="utf-8") as steps:
+        for number, step in enumerate(steps, 1):
+            words, status, out, err = step.rstrip("\n").split("\t")
+            text = b"" if out == "-" else read(os.path.join(folder, out))
+            check(f"{name} {number}", words.split(" "), int(status), text, "" if err == "-" else err, folder)
 
 
 def main():
@@ -66,6 +84,8 @@ def main():
         if name.endswith(".tmi"):
             base = name[: -len(".tmi")]
             check(base, ["trace", name, base + ".tmplan"], 0, read(os.path.join(cases, base + ".out")), "")
+    for name in sorted(os.listdir(traces)):
+        check_steps(name)
     handover = read(os.path.join(top, "examples", "handover.out"))
     check("the example", ["trace", "handover.tmi", "handover.tmplan"], 0, handover, "", os.path.join(top, "examples"))
     with tempfile.TemporaryDirectory() as folder:

@@ -2,6 +2,7 @@
 
 use crate::calls::{shelf, trace, words};
 use std::test::Fail;
+use tm_image::{ImageFault, PlanFault, Reason};
 use tm_io::{MemShelf, MemSink};
 use tm_prog::{Status, tm};
 
@@ -35,17 +36,45 @@ fn words_of_no_form_are_refused(rt: HostRuntime) -> Result<(), Fail> {
     Ok(())
 }
 
+/// The status of an image's text that is refused.
+fn image(line: u32, reason: Reason) -> Status {
+    Status::Image(ImageFault { line, reason })
+}
+
+/// The status of a plan's text that is refused.
+fn plan(line: u32, reason: Reason) -> Status {
+    Status::Plan(PlanFault { line, reason })
+}
+
 #[test]
-fn files_that_are_none_are_refused(rt: HostRuntime) -> Result<(), Fail> {
+fn texts_are_refused_by_line_and_reason(rt: HostRuntime) -> Result<(), Fail> {
     let alloc = rt.alloc();
-    let long = vec![in alloc; b'\n'; 8 * 1024 * 1024 + 1]?;
-    let cases: [(&[u8], &[u8], Status); 6] = [
-        (b"", PLAN, Status::NotBuilt(1)),
-        (PLAN, IMAGE, Status::NotBuilt(1)),
-        (IMAGE, IMAGE, Status::NotBuilt(2)),
-        (IMAGE, b"tmplan 1\nslice 1048577 0\n", Status::NotBuilt(2)),
-        (IMAGE, b"tmplan 1\nslice 2 0", Status::NotBuilt(2)),
-        (&long, PLAN, Status::NotBuilt(1)),
+    let cases: [(&[u8], &[u8], Status); 9] = [
+        (b"", PLAN, image(1, Reason::Missing)),
+        (b"tmi 2\n", PLAN, image(1, Reason::Form)),
+        (
+            b"tmi 1\ntask 0 basic 0 auto 0 1\n",
+            PLAN,
+            image(2, Reason::Range),
+        ),
+        (
+            b"tmi 1\ntask 0 basic 1 auto 0 1\ntask 1 basic 1 auto 0 1\n",
+            PLAN,
+            image(3, Reason::Repeated),
+        ),
+        (
+            b"tmi 1\ntask 0 basic 0x auto 0 1\n",
+            PLAN,
+            image(2, Reason::Number),
+        ),
+        (
+            IMAGE,
+            b"tmplan 1\nslice 1048577 0\n",
+            plan(2, Reason::Range),
+        ),
+        (IMAGE, IMAGE, plan(1, Reason::Form)),
+        (PLAN, IMAGE, image(1, Reason::Form)),
+        (IMAGE, b"\n\n", plan(3, Reason::Missing)),
     ];
     for (image, plan, wanted) in cases {
         let mut shelf = shelf(alloc, image, plan, &[])?;
@@ -53,6 +82,20 @@ fn files_that_are_none_are_refused(rt: HostRuntime) -> Result<(), Fail> {
         assert_eq!(rt; trace(alloc, &mut shelf, &mut sink)?, wanted);
         assert!(rt; sink.bytes().is_empty());
     }
+    Ok(())
+}
+
+#[test]
+fn a_file_past_its_limit_is_too_long(rt: HostRuntime) -> Result<(), Fail> {
+    let alloc = rt.alloc();
+    let long = vec![in alloc; b'\n'; 8 * 1024 * 1024 + 1]?;
+    let mut sink = MemSink::new(alloc, 64, &[])?;
+    let mut past = shelf(alloc, &long, PLAN, &[])?;
+    assert_eq!(rt; trace(alloc, &mut past, &mut sink)?, Status::TooLong(1));
+    let mut within = shelf(alloc, &long[1..], PLAN, &[])?;
+    let missing = image(8 * 1024 * 1024 + 1, Reason::Missing);
+    assert_eq!(rt; trace(alloc, &mut within, &mut sink)?, missing);
+    assert!(rt; sink.bytes().is_empty());
     Ok(())
 }
 

@@ -8,3 +8,5 @@ mod calls;
 mod faults;
 #[cfg(test)]
 mod texts;
+#[cfg(test)]
+mod windows;

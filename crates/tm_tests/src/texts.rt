@@ -25,7 +25,7 @@ text 1 00200893 00000073
 line 1 activate 1
 ";
 
-const CASES: [Case; 10] = [
+const CASES: [Case; 20] = [
     Case {
         what: "the smallest whole run",
         image: SMALLEST,
@@ -232,6 +232,243 @@ switch 1 - idle 0
 end 0 on
 task 0 running 1.1.00000000
 regs x2=10000004
+",
+    },
+    Case {
+        what: "an extended task goes on where its event is set",
+        image: "\
+tmi 1
+task 0 extended 1 auto 0 1
+text 0 00100593 00800893 00000073 00100513 00b00893 00000073 0000006f
+",
+        plan: "tmplan 1\nslice 6 0\n",
+        text: "\
+start 0 -
+task 0 0.0.00000000
+regs x2=10000004
+switch 1 - idle 0
+end 0 on
+task 0 running 1.0.00000018
+regs x2=10000004 x17=0000000b
+",
+    },
+    Case {
+        what: "a task chains itself",
+        image: "\
+tmi 1
+task 0 basic 1 auto 0 1
+text 0 100002b7 00700313 0062a023 00300893 00000073
+",
+        plan: "tmplan 1\nslice 5 0\n",
+        text: "\
+start 0 -
+task 0 0.0.00000000
+regs x2=10000004
+switch 1 - idle 0
+switch 2 0 ends 0
+at 1.0.00000000
+regs x2=10000004
+data 10000000 00000007
+end 0 on
+task 0 running 1.0.00000000
+regs x2=10000004
+",
+    },
+    Case {
+        what: "the holder of a resource goes first among equals",
+        image: "\
+tmi 1
+task 0 basic 3 auto 0 1
+text 0 00600893 00000073 0000006f
+task 1 basic 5 off 0 1
+text 1 00200893 00000073
+task 2 basic 6 off 0 1
+text 2 00200893 00000073
+resource 0 0 1
+line 0 activate 1
+line 1 activate 2
+",
+        plan: "tmplan 1\nslice 4 0\nslice 2 0x3\n",
+        text: "\
+start 0 -
+task 0 0.0.00000000
+regs x2=10000004
+task 1 0.0.00000000
+regs x2=10000004
+task 2 0.0.00000000
+regs x2=10000004
+switch 1 - idle 0
+switch 2 0 preempted 2
+at 0.2.00000008
+regs x2=10000004 x17=00000006
+switch 3 2 ends 0
+at 1.0.00000000
+regs x2=10000004
+end 0 on
+task 0 running 0.2.00000008
+regs x2=10000004 x17=00000006
+task 1 ready 0.0.00000000
+regs x2=10000004
+task 2 suspended 1.0.00000000
+regs x2=10000004
+",
+    },
+    Case {
+        what: "a task that holds a resource may not end",
+        image: "\
+tmi 1
+task 0 basic 1 auto 0 1
+text 0 00600893 00000073 00200893 00000073 0000006f
+resource 0 0
+",
+        plan: "tmplan 1\nslice 4 0\n",
+        text: "\
+start 0 -
+task 0 0.0.00000000
+regs x2=10000004
+switch 1 - idle 0
+end 0 on
+task 0 running 0.0.00000010
+regs x2=10000004 x10=00000006 x17=00000002
+",
+    },
+    Case {
+        what: "an absolute alarm at the present value has a whole turn left",
+        image: "\
+tmi 1
+task 0 basic 1 auto 0 1
+text 0 00e00893 00000073 00c00893 00000073 00100513 00000593 00d00893 00000073 0000006f
+alarm 0 activate 0
+alarm 1 activate 0
+",
+        plan: "tmplan 1\nslice 4 0\n",
+        text: "\
+start 0 -
+task 0 0.0.00000000
+regs x2=10000004
+switch 1 - idle 0
+end 0 on
+task 0 running 0.0.00000010
+regs x2=10000004 x11=80000000 x17=0000000c
+",
+    },
+    Case {
+        what: "a relative increment of 0 is refused",
+        image: "\
+tmi 1
+task 0 basic 1 auto 0 1
+text 0 00e00893 00000073 00c00893 00000073 00100513 00000593 00d00893 00000073 0000006f
+alarm 0 activate 0
+alarm 1 activate 0
+",
+        plan: "tmplan 1\nslice 8 0\n",
+        text: "\
+start 0 -
+task 0 0.0.00000000
+regs x2=10000004
+switch 1 - idle 0
+end 0 on
+task 0 running 0.0.00000020
+regs x2=10000004 x10=00000008 x17=0000000d
+",
+    },
+    Case {
+        what: "outputs stand with the task that made them",
+        image: "\
+tmi 1
+task 0 basic 1 auto 0 1
+text 0 00100513 00700593 01300893 00000073 0000006f
+task 1 basic 2 off 0 1
+text 1 00900593 01300893 00000073 00200893 00000073
+line 1 activate 1
+",
+        plan: "tmplan 1\nslice 5 0x2\nslice 4 0\n",
+        text: "\
+start 0 -
+task 0 0.0.00000000
+regs x2=10000004
+task 1 0.0.00000000
+regs x2=10000004
+switch 1 - idle 1
+switch 2 1 ends 0
+at 1.0.00000000
+regs x2=10000004
+out 0 00000009
+end 0 on
+task 0 running 0.0.00000010
+regs x2=10000004 x17=00000013
+out 1 00000007
+task 1 suspended 1.0.00000000
+regs x2=10000004
+",
+    },
+    Case {
+        what: "a full box, and a shutdown",
+        image: "\
+tmi 1
+task 0 basic 1 auto 0 1
+text 0 01000893 00000073 00000073 00050413 01400893 00000073
+box 0 1
+",
+        plan: "tmplan 1\nslice 9 0\nslice 9 0\n",
+        text: "\
+start 0 -
+task 0 0.0.00000000
+regs x2=10000004
+switch 1 - idle 0
+switch 2 0 shutdown -
+at 0.0.00000018
+regs x2=10000004 x8=00000004 x17=00000014
+end - shutdown
+task 0 ready 0.0.00000018
+regs x2=10000004 x8=00000004 x17=00000014
+",
+    },
+    Case {
+        what: "a port is read as the slice latched it",
+        image: "\
+tmi 1
+task 0 basic 1 auto 0 1
+text 0 00100513 01200893 00000073 0000006f
+",
+        plan: "tmplan 1\nslice 3 0 0 9 0 0\n",
+        text: "\
+start 0 -
+task 0 0.0.00000000
+regs x2=10000004
+switch 1 - idle 0
+end 0 on
+task 0 running 0.0.0000000c
+regs x2=10000004 x11=00000009 x17=00000012
+",
+    },
+    Case {
+        what: "an alarm that is due at the second tick",
+        image: "\
+tmi 1
+task 0 basic 1 auto 0 1
+text 0 00200593 00d00893 00000073 0000006f
+task 1 basic 2 off 0 1
+text 1 00200893 00000073
+alarm 0 activate 1
+line 0 tick
+",
+        plan: "tmplan 1\nslice 4 0\nslice 1 1\nslice 1 1\n",
+        text: "\
+start 0 -
+task 0 0.0.00000000
+regs x2=10000004
+task 1 0.0.00000000
+regs x2=10000004
+switch 1 - idle 0
+switch 2 0 preempted 1
+at 0.2.0000000c
+regs x2=10000004 x17=0000000d
+end 1 on
+task 0 ready 0.2.0000000c
+regs x2=10000004 x17=0000000d
+task 1 running 0.0.00000004
+regs x2=10000004 x17=00000002
 ",
     },
 ];
