@@ -67,6 +67,24 @@ def check_refusals(folder):
         check(what, words, status, b"", err, folder)
 
 
+def check_cell(folder):
+    """The image of tests/traces/cell under 20,000 ticks, one a slice of 500 instructions, to its end. Task 1 waits
+    once at boot and after each second tick, task 3 ends after each fifth, task 4 at boot and after each seventh:
+    10001, 4000 and 2858 epochs."""
+    global passed, failed
+    plan = os.path.join(folder, "cell.tmplan")
+    with open(plan, "w", encoding="ascii") as file:
+        file.write("tmplan 1\n" + "".join(f"slice 500 1 {k} 0 0 0\n" for k in range(20000)))
+    run = subprocess.run([program, "trace", os.path.join(traces, "cell", "I"), plan], capture_output=True, timeout=120)
+    wanted = [b"end 0 on", b"task 1 waiting 10001.0.0000000c", b"task 3 suspended 4000.0.00000000", b"task 4 suspended 2858.0.00000000"]
+    lines = set(run.stdout.split(b"\n"))
+    if run.returncode == 0 and run.stderr == b"" and all(line in lines for line in wanted):
+        passed += 1
+    else:
+        failed += 1
+        print(f"20,000 slices: status {run.returncode}, {run.stderr!r}, wanted the lines {wanted}")
+
+
 def check_steps(name):
     """Each call of a folder of tests/traces."""
     folder = os.path.join(traces, name)
@@ -93,6 +111,7 @@ def main():
             with open(os.path.join(folder, name.replace("handover", "good")), "wb") as file:
                 file.write(read(os.path.join(top, "examples", name)))
         check_refusals(folder)
+        check_cell(folder)
     help_run = subprocess.run([program, "--help"], capture_output=True, timeout=120)
     check("--help", ["--help"], 0, help_run.stdout if b"trace IMAGE PLAN" in help_run.stdout else b"?", "")
     check("--version", ["--version"], 0, b"tm 0.1.0\n", "")
