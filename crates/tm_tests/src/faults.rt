@@ -92,7 +92,8 @@ fn a_file_past_its_limit_is_too_long(rt: HostRuntime) -> Result<(), Fail> {
     let mut sink = MemSink::new(alloc, 64, &[])?;
     let mut past = shelf(alloc, &long, PLAN, &[])?;
     assert_eq!(rt; trace(alloc, &mut past, &mut sink)?, Status::TooLong(1));
-    let mut within = shelf(alloc, &long[1..], PLAN, &[])?;
+    let full = vec![in alloc; b'\n'; 8 * 1024 * 1024]?;
+    let mut within = shelf(alloc, &full, PLAN, &[])?;
     let missing = image(8 * 1024 * 1024 + 1, Reason::Missing);
     assert_eq!(rt; trace(alloc, &mut within, &mut sink)?, missing);
     assert!(rt; sink.bytes().is_empty());

@@ -8,5 +8,3 @@ mod calls;
 mod faults;
 #[cfg(test)]
 mod texts;
-#[cfg(test)]
-mod windows;
