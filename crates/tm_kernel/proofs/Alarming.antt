@@ -1,10 +1,9 @@
 -- What the alarms keep, through each service and a tick.
-use Rattle.std.proofs.Common.{◌≡◌, ◌≢◌, ℕ, ◌+◌, ◌-◌, ◌<◌, ◌≤◌, ◌%◌, ◌^◌, Bool, true, false, cond, List, length, map, replicate, refl, arith, inl, inr, slice_get, slice_set, length-set, Option, Some, None, if◌then◌else◌, ◌==◌, ◌&&◌, nat_lt}
-use Rattle.std.specs.List.{All}
+use Rattle.std.proofs.Common.{◌≡◌, ◌≢◌, ℕ, ◌+◌, ◌-◌, ◌<◌, ◌≤◌, ◌%◌, ◌^◌, Bool, true, false, length, refl, arith, inl, inr, slice_get, slice_set, length-set, Option, Some, None, if◌then◌else◌, ◌==◌, ◌&&◌, nat_lt}
 use Rattle.std.proofs.lemmas.Bool.{cases_eq, eq-eqb, ne_eqb, eqb-true, ltb-true, and_parts}
 use Rattle.std.proofs.lemmas.List.{length-map, length-replicate}
 use Rattle.std.proofs.lemmas.List.Elements.{All-set, All-map, All-weaker, All-replicate}
-use Rattle.tm_services.specs.declared.status.TheConstants.{E_OK, E_OS_VALUE}
+use Rattle.tm_services.specs.declared.status.TheConstants.{E_OK}
 use Rattle.tm_services.specs.Alarms.{AlarmView, Off, Armed, AlarmsView, IsAlarms, IsAlarm, all_off, is_counter_value, setting, put_where, set_rel_status, set_rel, set_abs_status, set_abs, ticks_until, cancel_status, cancelled, ticked_alarm, ticked}
 
 -- an alarm that is put where the call was not refused

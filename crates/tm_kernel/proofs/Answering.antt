@@ -1,24 +1,22 @@
 -- What every call keeps and leaves.
-use Rattle.std.proofs.Common.{◌≡◌, ◌≢◌, ℕ, ◌<◌, ◌∷◌, [], Bool, true, false, List, length, take, drop, refl, ap, sym, ◌∙◌, subst, arith, ◌⊎◌, inl, inr, Option, Some, None, slice_get, slice_set, slice_index, length-set, length-take, length-drop, if◌then◌else◌, ◌==◌, bit_and, not, nat_lt}
-use Rattle.std.proofs.lemmas.Bool.{cases_eq, eqb-true, eqb-false, eq-eqb, ne_eqb}
-use Rattle.std.proofs.lemmas.Option.{slice_get_within}
+use Rattle.std.proofs.Common.{◌≡◌, ◌≢◌, ℕ, ◌<◌, ◌∷◌, [], Bool, true, false, List, length, take, drop, refl, sym, ◌∙◌, subst, arith, inl, inr, Option, Some, None, slice_get, slice_set, slice_index, length-take, length-drop, if◌then◌else◌, ◌==◌, bit_and}
+use Rattle.std.proofs.lemmas.Bool.{cases_eq, eqb-true, eqb-false, ne_eqb}
 use Rattle.tm_marker.specs.declared.entries.Kind.{Kind}
-use Rattle.tm_marker.specs.declared.entries.Kind.TheVariants.{Preempted, Waits, Ends, Fault, Shutdown, Idle}
+use Rattle.tm_marker.specs.declared.entries.Kind.TheVariants.{Waits, Ends, Shutdown}
 use Rattle.tm_services.specs.declared.status.TheConstants.{E_OK, E_OS_ID, E_OS_NOFUNC}
-use Rattle.tm_services.specs.Ceilings.{get_status, got, release_status, released, holds}
-use Rattle.tm_services.specs.Alarms.{left_status, left_ticks, set_rel_status, set_rel, set_abs_status, set_abs, cancel_status, cancelled}
+use Rattle.tm_services.specs.Ceilings.{get_status, release_status}
+use Rattle.tm_services.specs.Alarms.{left_status, left_ticks, set_rel_status, set_abs_status, cancel_status}
 use Rattle.tm_kernel.specs.declared.kernel.Need.TheVariants.{Goes, Leaves}
 use Rattle.tm_kernel.specs.declared.kernel.TaskState.{TaskState}
-use Rattle.tm_kernel.specs.declared.kernel.TaskState.TheVariants.{Suspended, Ready, Running, Waiting}
+use Rattle.tm_kernel.specs.declared.kernel.TaskState.TheVariants.{Waiting}
 use Rattle.tm_kernel.specs.Mailboxes.{Message, send_status}
 use Rattle.tm_kernel.specs.State.{KernelState, IsKernel, IsRunning, nobody, state_number, stopped, events_of}
-use Rattle.tm_kernel.specs.Service.{Answered, answer, checked, goes_on, leaves, tells, tells_words, writes, entry_of, activate_task, terminate_task, chain_task, get_task_id, get_task_state, get_resource, release_resource, set_event, clear_event, get_event, wait_event, get_alarm, set_rel_alarm, set_abs_alarm, cancel_alarm, send, receive, read_input, write_output, shutdown_os, activation, activated, suspended, holding_status, chaining, event_status, events_set, own_event_status, without_events, wait_status, waiting, sent, port_status}
+use Rattle.tm_kernel.specs.Service.{Answered, answer, checked, goes_on, leaves, tells, tells_words, writes, activate_task, terminate_task, chain_task, get_task_id, get_task_state, get_resource, release_resource, set_event, clear_event, get_event, wait_event, get_alarm, set_rel_alarm, set_abs_alarm, cancel_alarm, send, receive, read_input, write_output, shutdown_os, activation, activated, suspended, holding_status, chaining, event_status, own_event_status, without_events, wait_status, waiting, sent, port_status}
 use Rattle.tm_kernel.specs.Schedule.{pick, rescheduled}
-use Rattle.tm_kernel.specs.Laws.{CanRun, CallKeeps, CallSameRest, CallNamesService, CallGoesOn, CallLeaves, RefusalChangesNothing, SameInCall, GoesOn, LeavesBy}
+use Rattle.tm_kernel.specs.Laws.{CanRun, CallKeeps, CallSameRest, CallNamesService, CallGoesOn, CallLeaves, RefusalChangesNothing, SameInCall, LeavesBy}
 use Rattle.tm_kernel.proofs.Keeping.{activated_keeps, suspended_keeps, stopped_keeps, waiting_keeps, events_set_keeps, without_events_keeps, got_keeps, released_keeps, set_rel_alarm_keeps, set_abs_alarm_keeps, cancelled_alarm_keeps, sent_keeps, taken_keeps_boxes, slice_get_set_same}
-use Rattle.tm_kernel.proofs.Alarming.{refused_put}
 use Rattle.tm_kernel.proofs.Picking.{pick_greatest}
-use Rattle.tm_kernel.proofs.Rescheduling.{TasksAlone, activated_tasks_alone, events_set_tasks_alone, goes_on_running, goes_on_where_runs, runs_the_pick, nobody_after_end}
+use Rattle.tm_kernel.proofs.Rescheduling.{TasksAlone, activated_tasks_alone, events_set_tasks_alone, goes_on_running, runs_the_pick, nobody_after_end}
 
 -- what holds where a test passes and where it fails
 if_by : {X : Type 0} (P : X → Type 0) (b : Bool) (x y : X) → P x → P y → P (if b then x else y)
@@ -274,13 +272,16 @@ waits_apart : (k : KernelState) (task mask : ℕ) → IsKernel k → IsRunning k
 waits_apart k task mask h runs next =
     let new : KernelState = waiting k task mask in
     let sound : IsKernel new = waiting_keeps k task mask h runs.runs in
-    let goes : k.ended ≡ 0 = goes_on_where_runs k h (λ e. somebody k task h runs (sym runs.runs ∙ e)) in
-    let is : pick new ≡ task = sym (runs_the_pick new sound goes) ∙ next in
-    let can : CanRun new task = subst (CanRun new) is (pick_greatest new sound (λ e. somebody k task h runs (sym is ∙ e))).can_run in
-    let state : slice_get new.states task ≡ Some Waiting = slice_get_set_same k.states task Waiting runs.there in
-    elim can [
-      | inl ready ↦ cc
-      | inr running ↦ cc
+    elim (cases_eq k.ended 0) [
+      | inl goes ↦
+          let is : pick new ≡ task = sym (runs_the_pick new sound goes) ∙ next in
+          let can : CanRun new task = subst (CanRun new) is (pick_greatest new sound (λ e. somebody k task h runs (sym is ∙ e))).can_run in
+          let state : slice_get new.states task ≡ Some Waiting = slice_get_set_same k.states task Waiting runs.there in
+          elim can [
+            | inl ready ↦ cc
+            | inr running ↦ cc
+          ]
+      | inr over ↦ somebody k task h runs (sym next ∙ nobody_after_end new refl over)
     ]
 
 pub call_leaves : CallLeaves
@@ -310,7 +311,7 @@ call_leaves k task service args kind six h runs =
       of_receive = receive_by P k a (slice_get k.boxes a) (λ e. cc) (λ e. cc) (λ _ _ _ e. cc);
       of_read_input = checked_by P k 18 (port_status a) (tells k 18 (slice_index k.ports a)) (λ _ e. cc) (λ _ e. cc);
       of_write_output = checked_by P k 19 (port_status a) (writes k 19 (record { task = task; port = a; value = slice_index args 1 })) (λ _ e. cc) (λ _ e. cc);
-      of_shutdown_os = by Shutdown (stopped k false) refl (refl, nobody_after_end (stopped k false) (stopped_keeps k false h) (λ e. omega arith));
+      of_shutdown_os = by Shutdown (stopped k false) refl (refl, nobody_after_end (stopped k false) refl (λ e. omega arith));
       other = λ e. cc;
     })
   where

@@ -1,18 +1,18 @@
 -- What a kernel keeps holds at boot.
-use Rattle.std.proofs.Common.{◌≡◌, ℕ, ◌+◌, ◌-◌, ◌<◌, ◌≤◌, ◌++◌, ◌^◌, Bool, true, false, List, [], ◌∷◌, length, map, replicate, refl, subst, ap, sym, ◌∙◌, arith, Some, None, zero, suc, inl, inr, slice_get, slice_index}
+use Rattle.std.proofs.Common.{◌≡◌, ℕ, ◌-◌, ◌<◌, ◌≤◌, ◌^◌, Bool, true, false, List, [], ◌∷◌, length, map, replicate, refl, sym, arith, Some, zero, suc, inl, inr, slice_get, slice_index}
 use Rattle.std.specs.List.{All}
 use Rattle.std.proofs.Math.Pow.{pow_mono}
 use Rattle.std.proofs.lemmas.Bool.{cases_lt}
 use Rattle.std.proofs.lemmas.List.{length-map, length-replicate, length-append, get_or-replicate, get_or_past}
 use Rattle.std.proofs.lemmas.List.Elements.{All-nil, All-append, All-replicate, All-map, All-weaker}
-use Rattle.std.proofs.lemmas.Option.{slice_get_within, same_Some}
+use Rattle.std.proofs.lemmas.Option.{same_Some}
 use Rattle.tm_services.specs.Ceilings.{IsCeilings, nothing_held, held_by, is_user}
 use Rattle.tm_kernel.specs.declared.spec.TaskSpec.{TaskSpec}
 use Rattle.tm_kernel.specs.declared.spec.KernelSpec.{KernelSpec}
 use Rattle.tm_kernel.specs.declared.kernel.TaskState.TheVariants.{Running}
 use Rattle.tm_kernel.specs.Spec.{IsKernelSpec}
 use Rattle.tm_kernel.specs.Mailboxes.{Message}
-use Rattle.tm_kernel.specs.State.{KernelState, IsKernel, IsBox, booted, boot_state, padded}
+use Rattle.tm_kernel.specs.State.{IsKernel, booted, boot_state, padded}
 use Rattle.tm_kernel.proofs.Alarming.{all_off_keeps}
 
 -- a short list and the zeros behind it
@@ -96,5 +96,4 @@ booted_keeps spec h = record {
   running = inl refl;
   alone = λ t e. absurd (boot_states_run_none spec.tasks t e);
   ended = omega arith;
-  idle = λ _. refl;
 }

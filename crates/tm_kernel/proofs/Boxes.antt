@@ -1,8 +1,8 @@
 -- Boxes as a list of boxes, and as the lists of their messages and capacities.
-use Rattle.std.proofs.Common.{◌≡◌, ℕ, ◌+◌, ◌<◌, ◌≤◌, ◌++◌, Bool, true, false, List, [], ◌∷◌, ◌⊎◌, inl, inr, if◌then◌else◌, ◌==◌, length, length-set, map, set, get_or, refl, ap, sym, ◌∙◌, Some, suc, zero, Option, None, option_map, slice_get, unwrap_or, drop, arith, take, replicate, add-one}
+use Rattle.std.proofs.Common.{◌≡◌, ℕ, ◌+◌, ◌<◌, ◌≤◌, ◌++◌, Bool, true, false, List, [], ◌∷◌, ◌⊎◌, inl, inr, if◌then◌else◌, ◌==◌, length, length-set, map, set, get_or, refl, ap, sym, ◌∙◌, Some, suc, zero, Option, option_map, slice_get, drop, arith, take, replicate}
 use Rattle.std.proofs.lemmas.List.{map-set, take_all, take_more_same, get_or-set_same, length-map, take-set}
 use Rattle.std.proofs.lemmas.Option.{slice_get-map, same_Some, slice_get_read}
-use Rattle.tm_kernel.specs.Mailboxes.{Message, MailboxView, MailboxesView, boxes_of, put_last, without_first}
+use Rattle.tm_kernel.specs.Mailboxes.{Message, MailboxView, boxes_of, put_last, without_first}
 use Rattle.tm_services.specs.declared.status.TheConstants.{E_OK, E_OS_LIMIT}
 
 -- what is put where the same stands already

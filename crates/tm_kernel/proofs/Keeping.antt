@@ -1,21 +1,18 @@
 -- What every kernel keeps, through each of its steps.
-use Rattle.std.proofs.Common.{◌≡◌, ◌≢◌, ℕ, ◌<◌, ◌≤◌, ◌++◌, ◌⊎◌, Bool, true, false, List, [], ◌∷◌, length, map, replicate, refl, subst, ap, sym, ◌∙◌, arith, Some, None, zero, suc, inl, inr, slice_get, slice_set, slice_index, length-set, Option, if◌then◌else◌, ◌==◌, bit_and, bit_or, unwrap_or, nat_lt}
+use Rattle.std.proofs.Common.{◌≡◌, ◌≢◌, ℕ, ◌<◌, ◌≤◌, ◌++◌, ◌⊎◌, Bool, true, false, List, [], ◌∷◌, length, refl, subst, ap, sym, ◌∙◌, arith, Some, None, zero, suc, inl, inr, slice_get, slice_set, length-set, Option, if◌then◌else◌, ◌==◌, bit_and, bit_or, unwrap_or, nat_lt}
 use Rattle.std.proofs.lemmas.Bool.{cases_eq, eq-eqb, ne_eqb, ltb-true}
-use Rattle.std.proofs.lemmas.List.{length-map, length-replicate, length-append}
-use Rattle.std.proofs.lemmas.List.Elements.{All-push, All-tail, All-nil}
+use Rattle.std.proofs.lemmas.List.{length-map, length-append}
+use Rattle.std.proofs.lemmas.List.Elements.{All-push, All-tail}
 use Rattle.std.proofs.lemmas.Option.{slice_get_within, same_Some}
-use Rattle.std.specs.List.{fold, All}
-use Rattle.tm_services.specs.Ceilings.{CeilingsView, IsCeilings, get_status, got, release_status, released, held_by}
+use Rattle.std.specs.List.{fold}
+use Rattle.tm_services.specs.Ceilings.{CeilingsView, IsCeilings, get_status, got, release_status, released}
 use Rattle.tm_services.specs.Alarms.{AlarmsView, IsAlarms, ticked, due, set_rel, set_abs, cancelled}
 use Rattle.tm_services.proofs.Holding.{free_from_status, taken_keeps, given_back_keeps}
-use Rattle.tm_kernel.specs.declared.spec.TaskSpec.{TaskSpec}
-use Rattle.tm_kernel.specs.declared.spec.KernelSpec.{KernelSpec}
 use Rattle.tm_kernel.specs.declared.kernel.TaskState.{TaskState}
 use Rattle.tm_kernel.specs.declared.kernel.TaskState.TheVariants.{Suspended, Ready, Running, Waiting}
-use Rattle.tm_kernel.specs.Spec.{IsKernelSpec}
 use Rattle.tm_kernel.specs.Mailboxes.{Message, MailboxesView, send_status, put_last, without_first}
-use Rattle.tm_kernel.specs.State.{KernelState, IsKernel, IsBox, IsRunning, nobody, paused, stopped, events_of, awaited_by}
-use Rattle.tm_kernel.specs.Service.{activation, activated, suspended, waiting, woken, with_events, events_set, event_status, event_status_in, without_events, sent}
+use Rattle.tm_kernel.specs.State.{KernelState, IsKernel, IsBox, nobody, paused, stopped, events_of, awaited_by}
+use Rattle.tm_kernel.specs.Service.{activation, activated, suspended, waiting, woken, with_events, events_set, event_status, without_events, sent}
 use Rattle.tm_kernel.specs.Schedule.{run_task, acted, tick, due_actions, performed, arrived, raised_actions}
 use Rattle.tm_kernel.specs.declared.spec.Action.{Action}
 use Rattle.tm_kernel.specs.declared.spec.Action.TheVariants.{Nothing, Tick, Activate, Event}
@@ -70,9 +67,9 @@ pub with_tasks : (k : KernelState) (states : List TaskState) (events awaited : L
     length states ≡ length k.states → length events ≡ length k.events → length awaited ≡ length k.awaited →
     ((running ≡ nobody) ⊎ (slice_get states running ≡ Some Running)) →
     ((t : ℕ) → slice_get states t ≡ Some Running → running ≡ t) →
-    ended ≤ 2 → (ended ≢ 0 → running ≡ nobody) →
+    ended ≤ 2 →
     IsKernel (record k { states = states; events = events; awaited = awaited; running = running; ended = ended })
-with_tasks k states events awaited running ended h s e a r al f i = record {
+with_tasks k states events awaited running ended h s e a r al f = record {
   spec = h.spec;
   states = s ∙ h.states;
   events = e ∙ h.events;
@@ -88,7 +85,6 @@ with_tasks k states events awaited running ended h s e a r al f i = record {
   running = r;
   alone = al;
   ended = f;
-  idle = i;
 }
 
 -- other resources that are held
@@ -110,7 +106,6 @@ with_ceilings k c h good p u r = record {
   running = h.running;
   alone = h.alone;
   ended = h.ended;
-  idle = h.idle;
 }
 
 -- other alarms
@@ -132,7 +127,6 @@ with_alarms k a h good n = record {
   running = h.running;
   alone = h.alone;
   ended = h.ended;
-  idle = h.idle;
 }
 
 -- other messages in the boxes
@@ -156,7 +150,6 @@ with_boxes k boxes h n good = record {
   running = h.running;
   alone = h.alone;
   ended = h.ended;
-  idle = h.idle;
 }
 
 -- other latched words
@@ -177,7 +170,6 @@ with_ports k ports h = record {
   running = h.running;
   alone = h.alone;
   ended = h.ended;
-  idle = h.idle;
 }
 
 -- a pause keeps the number of states
@@ -197,9 +189,9 @@ none_running_paused k h t there = elim (cases_eq k.running nobody) [
       other.0 (sym (h.alone t other.1))
 ]
 
--- a task that there is can be run, while the run goes on
-pub runs_keeps : (k : KernelState) (task : ℕ) → IsKernel k → k.ended ≡ 0 → task < length k.states → IsKernel (run_task k task)
-runs_keeps k task h goes there =
+-- a task that there is can be run
+pub runs_keeps : (k : KernelState) (task : ℕ) → IsKernel k → task < length k.states → IsKernel (run_task k task)
+runs_keeps k task h there =
     let within : task < length (paused k) = omega (arith, length-paused k) in
     with_tasks k (slice_set (paused k) task Running) k.events k.awaited task k.ended h
     (length-set (paused k) task Running ∙ length-paused k) refl refl
@@ -208,7 +200,7 @@ runs_keeps k task h goes there =
       | inl same ↦ sym same
       | inr other ↦ absurd (none_running_paused k h t (sym (slice_get_set_other (paused k) task t Running other) ∙ e))
     ])
-    h.ended (λ ne. absurd (ne goes))
+    h.ended
 
 stop_number : (fault : Bool) → (if fault then 1 else 2) ≤ 2
 stop_number true = omega arith
@@ -218,7 +210,7 @@ stop_number false = omega arith
 pub stopped_keeps : (k : KernelState) (fault : Bool) → IsKernel k → IsKernel (stopped k fault)
 stopped_keeps k fault h =
     with_tasks k (paused k) k.events k.awaited nobody (if fault then 1 else 2) h (length-paused k) refl refl
-    (inl refl) (λ t e. absurd (none_running_paused k h t e)) (stop_number fault) (λ _. refl)
+    (inl refl) (λ t e. absurd (none_running_paused k h t e)) (stop_number fault)
 
 -- a task in another state than running can be made ready
 pub put_ready_keeps : (k : KernelState) (task : ℕ) (events : List ℕ) (s : TaskState) → IsKernel k → slice_get k.states task ≡ Some s → s ≢ Running →
@@ -231,12 +223,12 @@ put_ready_keeps k task events s h e other number =
       | inr there ↦ inr (slice_get_set_other k.states task k.running Ready apart ∙ there)
     ])
     (λ t there. h.alone t (set_elsewhere k.states task t Ready Running (λ e. cc) there).1)
-    h.ended h.idle
+    h.ended
 
 -- other events that are set
 pub put_events_keeps : (k : KernelState) (events : List ℕ) → IsKernel k → length events ≡ length k.events → IsKernel (record k { events = events })
 put_events_keeps k events h number =
-    with_tasks k k.states events k.awaited k.running k.ended h refl number refl h.running h.alone h.ended h.idle
+    with_tasks k k.states events k.awaited k.running k.ended h refl number refl h.running h.alone h.ended
 
 -- an activation
 pub activated_keeps : (k : KernelState) (task : ℕ) → IsKernel k → IsKernel (activated k task)
@@ -257,7 +249,7 @@ left_keeps : (k : KernelState) (caller : ℕ) (s : TaskState) (awaited : List �
 left_keeps k caller s awaited h runs other number =
     with_tasks k (slice_set k.states caller s) k.events awaited nobody k.ended h (length-set k.states caller s) refl number (inl refl)
     (λ t e. (let there = set_elsewhere k.states caller t s Running other e in absurd (there.0 (sym (h.alone t there.1) ∙ runs))))
-    h.ended (λ _. refl)
+    h.ended
 
 -- the end of a running task
 pub suspended_keeps : (k : KernelState) (caller : ℕ) → IsKernel k → k.running ≡ caller → IsKernel (suspended k caller)

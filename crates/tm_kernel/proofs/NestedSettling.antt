@@ -10,7 +10,7 @@ use Rattle.tm_kernel.specs.declared.kernel.TaskState.TheVariants.{Ready, Running
 use Rattle.tm_kernel.specs.State.{KernelState, IsKernel, nobody, paused}
 use Rattle.tm_kernel.specs.Schedule.{greatest, claim, claims_from, claims, pick, pick_of, run_task, rescheduled}
 use Rattle.tm_kernel.specs.Laws.{CanRun, PicksSomebody}
-use Rattle.tm_kernel.specs.Nesting.{IsSettled, EveryReschedulingSettles}
+use Rattle.tm_kernel.specs.Nesting.{IsSettled, IsIdleAtEnd, EveryReschedulingSettles}
 use Rattle.tm_kernel.proofs.NestedLeaders.{pick_leads, running_claim}
 use Rattle.tm_kernel.proofs.NestedPicks.{claim_below_greatest, pick_of_within}
 use Rattle.tm_kernel.proofs.NestedPriorities.{static_below_current}
@@ -102,17 +102,22 @@ nobody_runs k h e ne = elim h.running [
   | inr there ↦ somebody_picked k k.running h (inr there) e
 ]
 
--- the running task is the picked one, and while the run goes on nobody runs only where nobody is picked
-abbrev Settled : KernelState → KernelState → Type 0
-Settled k new = IsSettled new × (k.ended ≡ 0 → new.running ≡ nobody → pick new ≡ nobody)
+-- the running task is the picked one; while the run goes on nobody runs only where nobody is picked, and
+-- after its end nobody runs
+record Settled (k new : KernelState) : Type 0 where
+  settled : IsSettled new
+  nobody_waits : k.ended ≡ 0 → new.running ≡ nobody → pick new ≡ nobody
+  idle : IsIdleAtEnd new
 
-settled_by : (k : KernelState) → IsKernel k → Settled k (rescheduled k)
-settled_by k h = rescheduled_by (Settled k) k
-    (λ ended. ((λ ne. absurd (ne (h.idle ended))), λ on. absurd (ended on)))
-    (λ on none. ((λ ne. absurd (nobody_runs k h none ne)), λ _ _. none))
-    (λ on some. (
+settled_by : (k : KernelState) → IsKernel k → IsIdleAtEnd k → Settled k (rescheduled k)
+settled_by k h idle = rescheduled_by (Settled k) k
+    (λ ended. record { settled = λ ne. absurd (ne (idle ended)); nobody_waits = λ on. absurd (ended on); idle = idle })
+    (λ on none. record { settled = λ ne. absurd (nobody_runs k h none ne); nobody_waits = λ _ _. none; idle = idle })
+    (λ on some.
     let same : pick (run_task k (pick k)) ≡ pick k = pick_stays k (pick k) h (pick_leads k some).can_run in
-    ((λ _. sym same), λ _ none. absurd (some none))))
+    record { settled = λ _. sym same; nobody_waits = λ _ none. absurd (some none); idle = λ ended. absurd (ended on) })
 
 pub every_rescheduling_settles : EveryReschedulingSettles
-every_rescheduling_settles k h = record { settled = (settled_by k h).0; nobody_waits = (settled_by k h).1 }
+every_rescheduling_settles k h idle =
+    let all : Settled k (rescheduled k) = settled_by k h idle in
+    record { settled = all.settled; nobody_waits = all.nobody_waits; idle = all.idle }

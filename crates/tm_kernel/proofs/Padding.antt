@@ -1,5 +1,5 @@
 -- A short list, and zeros behind it.
-use Rattle.std.proofs.Common.{◌≡◌, ℕ, ◌+◌, ◌-◌, ◌<◌, ◌≤◌, ◌++◌, List, [], ◌∷◌, length, map, take, replicate, set, get_or, refl, ap, sym, ◌∙◌, subst, arith, zero, suc, append_assoc}
+use Rattle.std.proofs.Common.{◌≡◌, ℕ, ◌+◌, ◌-◌, ◌<◌, ◌≤◌, ◌++◌, List, [], ◌∷◌, length, map, take, replicate, set, get_or, refl, ap, sym, ◌∙◌, arith, zero, suc, append_assoc}
 use Rattle.std.proofs.lemmas.List.{length-map, length-take-le, map_more}
 use Rattle.tm_kernel.specs.declared.spec.TaskSpec.{TaskSpec}
 

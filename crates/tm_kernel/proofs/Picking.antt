@@ -1,17 +1,17 @@
 -- What the pick names: a task that can run, of greatest current priority.
-use Rattle.std.proofs.Common.{◌≡◌, ◌≢◌, ℕ, ◌+◌, ◌<◌, ◌≤◌, subst, Bool, true, false, not, eqb, List, [], ◌∷◌, ◌++◌, length, map, max, get_or, refl, ap, sym, ◌∙◌, arith, Some, None, unwrap_or, suc, ◌⊎◌, inl, inr, zero, slice_get, slice_index, Option, ◌==◌, ◌&&◌}
-use Rattle.std.specs.List.{fold, position, prefix_len}
+use Rattle.std.proofs.Common.{◌≡◌, ◌≢◌, ℕ, ◌+◌, ◌<◌, ◌≤◌, subst, false, not, List, [], ◌∷◌, length, map, max, get_or, refl, ap, sym, ◌∙◌, arith, Some, None, unwrap_or, suc, ◌⊎◌, inl, inr, zero, slice_get, slice_index, Option, ◌==◌, ◌&&◌}
+use Rattle.std.specs.List.{fold, prefix_len}
 use Rattle.std.proofs.lemmas.List.{length-map, get_or-map, get_or_append_left}
 use Rattle.std.proofs.lemmas.List.Elements.{All-get_or}
 use Rattle.std.proofs.lemmas.List.Quantifiers.{position-Some}
-use Rattle.std.proofs.lemmas.Option.{none-some, same_Some, slice_get_within, get_or_from_slice_get}
-use Rattle.std.proofs.lemmas.Bool.{cases_eq, eq-eqb, eqb-true, eqb-false, ne_eqb, lt-ltb, ltb-true, and_parts}
+use Rattle.std.proofs.lemmas.Option.{none-some, same_Some, slice_get_within}
+use Rattle.std.proofs.lemmas.Bool.{cases_eq, eq-eqb, eqb-true, ne_eqb, lt-ltb, and_parts}
 use Rattle.tm_services.specs.Ceilings.{CeilingsView, current, held_by, ceiling}
 use Rattle.tm_kernel.specs.declared.spec.TaskSpec.{TaskSpec}
 use Rattle.tm_kernel.specs.declared.kernel.claim.Claim.{Claim}
 use Rattle.tm_kernel.specs.declared.kernel.TaskState.{TaskState}
 use Rattle.tm_kernel.specs.declared.kernel.TaskState.TheVariants.{Suspended, Ready, Running, Waiting}
-use Rattle.tm_kernel.specs.State.{KernelState, IsKernel, nobody, padded}
+use Rattle.tm_kernel.specs.State.{KernelState, IsKernel, nobody}
 use Rattle.tm_kernel.specs.Schedule.{pick, pick_of, claim, claims, claims_from, greatest, first_holder, first_claim}
 use Rattle.tm_kernel.specs.Laws.{CanRun, IsGreatest, PicksSomebody, PicksGreatest}
 use Rattle.tm_kernel.proofs.Scan.{fold_max_above, claim_within}

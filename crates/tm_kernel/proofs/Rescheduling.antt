@@ -12,12 +12,12 @@ use Rattle.tm_services.specs.Alarms.{ticked, due}
 use Rattle.tm_kernel.specs.State.{KernelState, IsKernel, nobody, stopped, events_of, awaited_by}
 use Rattle.tm_kernel.specs.Service.{activation, activated, events_set, event_status, with_events, woken}
 use Rattle.tm_kernel.specs.Schedule.{pick, run_task, rescheduled, acted, tick, due_actions, performed, raised_actions, arrived}
-use Rattle.tm_kernel.specs.Laws.{CanRun, SameButStates, SameInArrival, RunKeeps, ReschedulingKeeps, RunsThePick, RunsATask, ReschedulingSameRest, GoesOnRunning, ArrivalLatches, ArrivalGoesOn, StopEnds}
+use Rattle.tm_kernel.specs.Laws.{CanRun, SameButStates, RunKeeps, ReschedulingKeeps, RunsThePick, RunsATask, ReschedulingSameRest, GoesOnRunning, ArrivalLatches, ArrivalGoesOn, StopEnds}
 use Rattle.tm_kernel.proofs.Keeping.{runs_keeps, arrived_keeps, slice_get_set_same}
 use Rattle.tm_kernel.proofs.Picking.{pick_within, pick_somebody}
 
 pub run_keeps : RunKeeps
-run_keeps k h goes ne = runs_keeps k (pick k) h goes (pick_within k h ne)
+run_keeps k h ne = runs_keeps k (pick k) h (pick_within k h ne)
 
 -- a rescheduling, where the run has ended
 pub rescheduled_after_end : (k : KernelState) → k.ended ≢ 0 → rescheduled k ≡ k
@@ -45,7 +45,7 @@ rescheduled_by P k same runs = elim (cases_eq k.ended 0) [
 ]
 
 pub rescheduling_keeps : ReschedulingKeeps
-rescheduling_keeps k h = rescheduled_by IsKernel k h (λ goes ne. run_keeps k h goes ne)
+rescheduling_keeps k h = rescheduled_by IsKernel k h (λ _ ne. run_keeps k h ne)
 
 -- the running task can run
 pub running_can_run : (k : KernelState) → IsKernel k → k.running ≢ nobody → CanRun k k.running
@@ -68,8 +68,8 @@ runs_the_pick k h goes = elim (cases_eq (pick k) nobody) [
 ]
 
 -- after the end nobody runs
-pub nobody_after_end : (k : KernelState) → IsKernel k → k.ended ≢ 0 → (rescheduled k).running ≡ nobody
-nobody_after_end k h ne = ap (λ (s : KernelState). s.running) (rescheduled_after_end k ne) ∙ h.idle ne
+pub nobody_after_end : (k : KernelState) → k.running ≡ nobody → k.ended ≢ 0 → (rescheduled k).running ≡ nobody
+nobody_after_end k idle ne = ap (λ (s : KernelState). s.running) (rescheduled_after_end k ne) ∙ idle
 
 pub runs_a_task : RunsATask
 runs_a_task k h = elim (cases_eq k.ended 0) [
@@ -77,7 +77,11 @@ runs_a_task k h = elim (cases_eq k.ended 0) [
     | inl e ↦ inl (runs_the_pick k h goes ∙ e)
     | inr ne ↦ inr (omega (arith, runs_the_pick k h goes, pick_within k h ne, h.states))
   ]
-  | inr ne ↦ inl (nobody_after_end k h ne)
+  | inr ne ↦ subst (λ (n : ℕ). (n ≡ nobody) ⊎ (n < length k.spec.tasks)) (sym (ap (λ (s : KernelState). s.running) (rescheduled_after_end k ne)))
+      (elim h.running [
+        | inl none ↦ inl none
+        | inr there ↦ inr (omega (arith, slice_get_within k.states k.running Running there, h.states))
+      ])
 ]
 
 pub rescheduling_same_rest : ReschedulingSameRest
@@ -85,16 +89,11 @@ rescheduling_same_rest k = rescheduled_by (SameButStates k) k
     (record { spec = refl; events = refl; awaited = refl; ceilings = refl; alarms = refl; boxes = refl; ports = refl; ended = refl })
     (λ _ _. record { spec = refl; events = refl; awaited = refl; ceilings = refl; alarms = refl; boxes = refl; ports = refl; ended = refl })
 
--- where a task runs, the run has not ended
-pub goes_on_where_runs : (k : KernelState) → IsKernel k → k.running ≢ nobody → k.ended ≡ 0
-goes_on_where_runs k h ne = elim (cases_eq k.ended 0) [
-  | inl goes ↦ goes
-  | inr over ↦ absurd (ne (h.idle over))
-]
-
 pub goes_on_running : GoesOnRunning
-goes_on_running k h ne none =
-    pick_somebody k k.running h (running_can_run k h ne) (sym (runs_the_pick k h (goes_on_where_runs k h ne)) ∙ none)
+goes_on_running k h ne none = elim (cases_eq k.ended 0) [
+  | inl goes ↦ pick_somebody k k.running h (running_can_run k h ne) (sym (runs_the_pick k h goes) ∙ none)
+  | inr over ↦ ne (sym (ap (λ (s : KernelState). s.running) (rescheduled_after_end k over)) ∙ none)
+]
 
 -- a step that may change the tasks' states and events alone
 pub record TasksAlone (old new : KernelState) : Type 0 where

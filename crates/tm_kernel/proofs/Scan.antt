@@ -1,5 +1,5 @@
 -- One pass over the claims that keeps the greatest so far and its place.
-use Rattle.std.proofs.Common.{◌≡◌, ℕ, ◌+◌, ◌<◌, ◌≤◌, not, cond, eqb, ltb, nat_lt, ◌==◌, ◌&&◌, ◌||◌, Bool, true, false, List, [], ◌∷◌, length, map, max, suc, if◌then◌else◌, refl, subst, ap, sym, ◌∙◌, arith, Some, None, ◌⊎◌, inl, inr, drop, get_or, add-one, add_comm, drop-cons, unwrap_or}
+use Rattle.std.proofs.Common.{◌≡◌, ℕ, ◌+◌, ◌<◌, ◌≤◌, not, cond, eqb, ltb, nat_lt, ◌==◌, ◌&&◌, ◌||◌, Bool, true, false, List, [], ◌∷◌, length, map, max, suc, if◌then◌else◌, refl, subst, ap, sym, ◌∙◌, arith, Some, None, ◌⊎◌, inl, inr, drop, get_or, unwrap_or}
 use Rattle.std.specs.List.{fold, prefix_len}
 use Rattle.std.proofs.lemmas.Bool.Decides.{nat_tests}
 use Rattle.std.proofs.lemmas.List.{drop_all, drop_more}

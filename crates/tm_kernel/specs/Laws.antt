@@ -9,7 +9,7 @@ use Rattle.tm_kernel.specs.declared.kernel.TaskState.TheVariants.{Ready, Running
 use Rattle.tm_kernel.specs.declared.spec.KernelSpec.{KernelSpec}
 use Rattle.tm_kernel.specs.Spec.{IsKernelSpec}
 use Rattle.tm_kernel.specs.State.{KernelState, IsKernel, IsRunning, nobody, booted, stopped}
-use Rattle.tm_kernel.specs.Service.{Answered, answer}
+use Rattle.tm_kernel.specs.Service.{answer}
 use Rattle.tm_kernel.specs.Schedule.{pick, run_task, rescheduled, arrived}
 
 -- the task is ready or running
@@ -35,9 +35,9 @@ CallKeeps = (k : KernelState) (task service : ℕ) (args : List ℕ) → length 
 abbrev pub ArrivalKeeps : Type 0
 ArrivalKeeps = (k : KernelState) (mask : ℕ) (ports : List ℕ) → IsKernel k → IsKernel (arrived k mask ports)
 
--- to run the picked task keeps it, while the run goes on
+-- to run the picked task keeps it
 abbrev pub RunKeeps : Type 0
-RunKeeps = (k : KernelState) → IsKernel k → k.ended ≡ 0 → pick k ≢ nobody → IsKernel (run_task k (pick k))
+RunKeeps = (k : KernelState) → IsKernel k → pick k ≢ nobody → IsKernel (run_task k (pick k))
 
 -- a rescheduling keeps it
 abbrev pub ReschedulingKeeps : Type 0

@@ -1,5 +1,5 @@
 -- Boxes of messages, each with room for a number of them that never changes.
-use Rattle.std.specs.Prelude.{ℕ, ◌==◌, nat_lt, if◌then◌else◌, List, [], ◌∷◌, ◌++◌, map, slice_get, slice_set, length, Option, Some, None, Result, Ok, Err, unwrap_or}
+use Rattle.std.specs.Prelude.{ℕ, nat_lt, if◌then◌else◌, List, [], ◌∷◌, ◌++◌, map, slice_get, slice_set, length, Option, Some, None, Result, Ok, Err, unwrap_or}
 use Rattle.tm_services.specs.declared.status.TheConstants.{E_OK, E_OS_ID, E_OS_LIMIT, E_OS_NOFUNC}
 
 -- a message of a box: four words

@@ -38,6 +38,10 @@ HoldersDiffer = (k : KernelState) (task other : ℕ) → IsNested k → task ≢
 abbrev pub IsSettled : KernelState → Type 0
 IsSettled k = k.running ≢ nobody → k.running ≡ pick k
 
+-- after the end of the run nobody runs
+abbrev pub IsIdleAtEnd : KernelState → Type 0
+IsIdleAtEnd k = k.ended ≢ 0 → k.running ≡ nobody
+
 -- at boot no task holds a resource
 abbrev pub BootIsNested : Type 0
 BootIsNested = (spec : KernelSpec) → IsKernelSpec spec → IsNested (booted spec)
@@ -60,13 +64,14 @@ abbrev pub StopKeepsNested : Type 0
 StopKeepsNested = (k : KernelState) (fault : Bool) → IsKernel k → IsNested k → IsNested (stopped k fault)
 
 -- after a rescheduling the running task is the picked one; while the run goes on, nobody runs only where
--- nobody is picked
+-- nobody is picked, and after its end nobody runs
 pub record ReschedulingSettles (k : KernelState) : Type 0 where
   pub settled : IsSettled (rescheduled k)
   pub nobody_waits : k.ended ≡ 0 → (rescheduled k).running ≡ nobody → pick (rescheduled k) ≡ nobody
+  pub idle : IsIdleAtEnd (rescheduled k)
 
 abbrev pub EveryReschedulingSettles : Type 0
-EveryReschedulingSettles = (k : KernelState) → IsKernel k → ReschedulingSettles k
+EveryReschedulingSettles = (k : KernelState) → IsKernel k → IsIdleAtEnd k → ReschedulingSettles k
 
 -- a declared user that runs never finds a resource held by another task
 abbrev pub UsersNeverBlock : Type 0

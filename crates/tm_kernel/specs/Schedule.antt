@@ -1,5 +1,5 @@
 -- Who runs next, and what an interrupt does.
-use Rattle.std.specs.Prelude.{ℕ, ◌+◌, ◌/◌, ◌%◌, ◌^◌, Bool, ◌==◌, ◌&&◌, if◌then◌else◌, List, [], ◌∷◌, map, fold, position, slice_set, Option, Some, None, unwrap_or, max}
+use Rattle.std.specs.Prelude.{ℕ, ◌+◌, ◌/◌, ◌%◌, ◌^◌, Bool, ◌==◌, ◌&&◌, if◌then◌else◌, List, [], ◌∷◌, map, fold, position, slice_set, Option, unwrap_or, max}
 use Rattle.tm_services.specs.Ceilings.{CeilingsView, current, holds}
 use Rattle.tm_services.specs.Alarms.{ticked, due}
 use Rattle.tm_kernel.specs.declared.spec.Action.{Action}

@@ -1,5 +1,5 @@
 -- What a service call does and answers, one row of the table of services for each.
-use Rattle.std.specs.Prelude.{◌≡◌, ℕ, ◌-◌, ◌==◌, nat_lt, nat_le, bit_and, bit_or, not, false, if◌then◌else◌, List, [], ◌∷◌, ◌++◌, length, take, drop, slice_get, slice_set, slice_index, Option, Some, None, unwrap_or}
+use Rattle.std.specs.Prelude.{◌≡◌, ℕ, ◌-◌, ◌==◌, nat_lt, bit_and, bit_or, not, false, if◌then◌else◌, List, [], ◌∷◌, take, drop, slice_get, slice_set, slice_index, Option, Some, None}
 use Rattle.tm_marker.specs.declared.entries.DataEntry.{DataEntry}
 use Rattle.tm_marker.specs.declared.entries.OutputEntry.{OutputEntry}
 use Rattle.tm_marker.specs.declared.entries.Kind.{Kind}

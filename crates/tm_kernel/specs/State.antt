@@ -1,5 +1,5 @@
 -- A kernel, as a record of plain lists (tasks, events, resources, alarms: OSEK/VDX OS 2.2.3, 4, 7, 8, 9).
-use Rattle.std.specs.Prelude.{◌≡◌, ◌≢◌, ℕ, ◌<◌, ◌≤◌, ◌-◌, ◌^◌, ◌⊎◌, ◌==◌, Bool, false, if◌then◌else◌, List, [], ◌++◌, map, length, replicate, slice_get, slice_set, Option, Some, None, option_map, unwrap_or, All}
+use Rattle.std.specs.Prelude.{◌≡◌, ℕ, ◌<◌, ◌≤◌, ◌-◌, ◌⊎◌, ◌==◌, Bool, false, if◌then◌else◌, List, [], ◌++◌, map, length, replicate, slice_get, slice_set, Some, option_map, unwrap_or, All}
 use Rattle.tm_services.specs.Ceilings.{CeilingsView, IsCeilings, nothing_held}
 use Rattle.tm_services.specs.Alarms.{AlarmsView, IsAlarms, all_off}
 use Rattle.tm_kernel.specs.declared.kernel.TaskState.{TaskState}
@@ -98,8 +98,7 @@ pub record IsBox (capacity : ℕ) (messages : List Message) : Type 0 where
   pub words : All (λ m. length m ≡ 4) messages
 
 -- what every kernel keeps: each task has one state and its masks of events, and the running task alone is
--- in the state running; the resources, alarms and boxes are those of the specification; after the end of
--- the run nobody runs
+-- in the state running; the resources, alarms and boxes are those of the specification
 pub record IsKernel (k : KernelState) : Type 0 where
   pub spec : IsKernelSpec k.spec
   pub states : length k.states ≡ length k.spec.tasks
@@ -117,4 +116,3 @@ pub record IsKernel (k : KernelState) : Type 0 where
   pub running : (k.running ≡ nobody) ⊎ (slice_get k.states k.running ≡ Some Running)
   pub alone : (t : ℕ) → slice_get k.states t ≡ Some Running → k.running ≡ t
   pub ended : k.ended ≤ 2
-  pub idle : k.ended ≢ 0 → k.running ≡ nobody

@@ -18,6 +18,7 @@ use Rattle.tm_kernel.specs.Schedule.{rescheduled, arrived}
 use Rattle.tm_kernel.proofs.Keeping.{slice_get_set_same, booted_keeps, arrived_keeps, stopped_keeps}
 use Rattle.tm_kernel.proofs.Rescheduling.{rescheduling_keeps, runs_a_task, rescheduling_same_rest, arrival_latches, arrival_goes_on}
 use Rattle.tm_kernel.specs.Laws.{LeavesBy}
+use Rattle.tm_kernel.specs.Nesting.{IsIdleAtEnd, ReschedulingSettles}
 use Rattle.tm_kernel.proofs.Answering.{call_keeps, call_same_rest, call_names_service, call_goes_on, call_leaves}
 use Rattle.tm_kernel.proofs.NestedCalls.{boot_is_nested, call_keeps_nested}
 use Rattle.tm_kernel.proofs.NestedStates.{arrival_keeps_nested, stop_keeps_nested, rescheduling_keeps_nested}
@@ -80,6 +81,7 @@ arrival_good image h mask ports i s goes =
     let rest = arrival_latches k mask ports in
     let spec : a.spec ≡ image.spec = rest.spec ∙ s.spec in
     let ended : (rescheduled a).ended ≡ 0 = (rescheduling_same_rest a).ended ∙ rest.ended ∙ goes in
+    let settles : ReschedulingSettles a = every_rescheduling_settles a sound (λ over. absurd (over (rest.ended ∙ goes))) in
     record {
       follows = record {
         goes = goes;
@@ -92,8 +94,8 @@ arrival_good image h mask ports i s goes =
         bodies = s.bodies;
         idle = λ stopped. absurd (stopped ended);
         nested = rescheduling_keeps_nested a sound (arrival_keeps_nested k mask ports s.kernel s.nested);
-        settled = (every_rescheduling_settles a sound).settled;
-        nobody_waits = λ _ _ idle. (every_rescheduling_settles a sound).nobody_waits (rest.ended ∙ goes) idle;
+        settled = settles.settled;
+        nobody_waits = λ _ _ idle. settles.nobody_waits (rest.ended ∙ goes) idle;
       };
     }
 
@@ -187,6 +189,13 @@ ended_by_call k task service args six sound runs goes Continues e = (call_goes_o
 ended_by_call k task service args six sound runs goes (Leaves kind) e =
     left_ended k task (answer k task service args).kernel kind (call_leaves k task service args kind six sound runs e).1 goes
 
+-- a call that ends the run leaves nobody running
+idle_after_call : (k : KernelState) (task service : ℕ) (args : List ℕ) → length args ≡ 6 → IsKernel k → IsRunning k task →
+    k.ended ≡ 0 → (need : Need) → (answer k task service args).need ≡ need → IsIdleAtEnd (answer k task service args).kernel
+idle_after_call k task service args six sound runs goes Continues e =
+    λ over. absurd (over ((call_goes_on k task service args six sound runs e).ended ∙ goes))
+idle_after_call k task service args six sound runs goes (Leaves kind) e = λ _. (call_leaves k task service args kind six sound runs e).0
+
 -- the running task's call is answered
 call_good : (image : ImageView) (h : History) (service : ℕ) → IsImage image → IsSoundAt image h →
     running_at image h ≢ nobody →
@@ -206,9 +215,11 @@ call_good image h service i s somebody e =
     let rest = call_same_rest k t service (args_of b) in
     let spec : a.kernel.spec ≡ image.spec = rest.spec ∙ s.spec in
     let goes : k.ended ≡ 0 = goes_still image h s somebody in
+    let settles : ReschedulingSettles a.kernel =
+    every_rescheduling_settles a.kernel sound (idle_after_call k t service (args_of b) refl s.kernel runs goes a.need refl) in
     record {
       follows = record {
-        goes = goes_still image h s somebody;
+        goes = goes;
         did = record {
           turn = record { runs = refl; there = there };
           calls = e ∙ ap Calls (sym (call_names_service k t service (args_of b)));
@@ -222,12 +233,12 @@ call_good image h service i s somebody e =
         spec = (rescheduling_same_rest a.kernel).spec ∙ spec;
         kernel = rescheduling_keeps a.kernel sound;
         bodies = length-set _ t _ ∙ s.bodies;
-        idle = (rescheduling_keeps a.kernel sound).idle;
+        idle = settles.idle;
         nested = rescheduling_keeps_nested a.kernel sound
             (call_keeps_nested k t service (args_of b) s.kernel s.nested s.settled runs);
-        settled = (every_rescheduling_settles a.kernel sound).settled;
+        settled = settles.settled;
         nobody_waits = λ _ goes_on idle.
-            (every_rescheduling_settles a.kernel sound).nobody_waits (sym (rescheduling_same_rest a.kernel).ended ∙ goes_on) idle;
+            settles.nobody_waits (sym (rescheduling_same_rest a.kernel).ended ∙ goes_on) idle;
       };
     }
 

@@ -23,7 +23,6 @@ impl Kernel {
     pub fn run(&mut self, task: u8)
         requires picked { task ≡ pick self.old }
         requires somebody { task ≢ nobody }
-        requires goes_on { self.old.ended ≡ 0 }
         ensures runs { self.new ≡ run_task self.old task }
         ensures sound { IsKernel self.new }
     {

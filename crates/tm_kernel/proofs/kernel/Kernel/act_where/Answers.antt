@@ -1,4 +1,4 @@
-use Rattle.std.proofs.Common.{◌≡◌, ◌≢◌, ℕ, ◌<◌, ◌≤◌, length, drop, get_or, slice_get, Some, ap, sym, ◌∙◌, arith, inl, inr}
+use Rattle.std.proofs.Common.{◌≡◌, ◌<◌, ◌≤◌, length, drop, get_or, slice_get, Some, ap, sym, ◌∙◌, arith, inl, inr}
 use Rattle.std.specs.List.{fold}
 use Rattle.std.proofs.lemmas.Option.{get_or_from_slice_get}
 use Rattle.tm_kernel.specs.declared.spec.Action.TheVariants.{Nothing}

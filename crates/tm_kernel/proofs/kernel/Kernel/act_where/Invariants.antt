@@ -1,6 +1,5 @@
 use Rattle.std.proofs.Common.{◌≡◌, drop}
 use Rattle.std.specs.List.{fold}
-use Rattle.tm_kernel.specs.State.{KernelState}
 use Rattle.tm_kernel.specs.Schedule.{acted, due_actions}
 use Rattle.tm_kernel.proofs.kernel.Kernel.act_where.Given as goal
 

@@ -1,7 +1,6 @@
 use Rattle.std.proofs.Common.{◌≡◌, length, ap, sym, ◌∙◌, subst, arith}
 use Rattle.tm_marker.specs.declared.entries.DataEntry.{DataEntry}
 use Rattle.tm_kernel.specs.State.{IsKernel}
-use Rattle.tm_kernel.specs.Service.{answer}
 use Rattle.tm_kernel.proofs.Answering.{call_keeps, refusal_changes_nothing}
 use Rattle.tm_kernel.proofs.NestedRefusals.{answered_users_hold}
 use Rattle.tm_kernel.proofs.kernel.Kernel.call.Goals as goal

@@ -1,4 +1,4 @@
-use Rattle.std.proofs.Common.{rules, ◌≡◌, List, [], ◌∷◌, ℕ, subst, ap, sym, ◌∙◌}
+use Rattle.std.proofs.Common.{rules, ◌≡◌, [], ◌∷◌, subst}
 use Rattle.tm_kernel.specs.State.{KernelState, IsKernel, booted}
 use Rattle.tm_kernel.proofs.Keeping.{booted_keeps}
 use Rattle.tm_kernel.proofs.kernel.Kernel.new.Goals as goal

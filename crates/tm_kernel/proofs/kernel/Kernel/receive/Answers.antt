@@ -1,5 +1,5 @@
 use Rattle.std.proofs.Common.{◌≡◌, slice_get, subst, List, ℕ}
-use Rattle.tm_kernel.specs.Mailboxes.{MailboxesView, without_first}
+use Rattle.tm_kernel.specs.Mailboxes.{without_first}
 use Rattle.tm_kernel.specs.State.{KernelState}
 use Rattle.tm_kernel.proofs.Keeping.{boxes_received}
 use Rattle.tm_kernel.proofs.kernel.Kernel.receive.Goals as goal

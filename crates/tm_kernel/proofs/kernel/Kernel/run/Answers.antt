@@ -29,7 +29,7 @@ invariant_of-self c =
       ended = c.self.inside.ended;
     } in
     let e : run_task c.args.self.now c.args.task ≡ after = search rules in (
-      subst IsKernel e (runs_keeps c.args.self.now c.args.task c.pause.ensures.was_sound c.requires.goes_on
+      subst IsKernel e (runs_keeps c.args.self.now c.args.task c.pause.ensures.was_sound
           (pick_within_at c.args.self.now c.args.task c.pause.ensures.was_sound c.requires.picked c.requires.somebody)),
       c.self.invariant.1,
     )

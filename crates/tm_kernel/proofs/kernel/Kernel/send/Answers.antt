@@ -1,6 +1,6 @@
 use Rattle.std.proofs.Common.{◌≡◌, length, arith, slice_get, if◌then◌else◌, ◌==◌, subst, List, ℕ}
 use Rattle.tm_services.specs.declared.status.TheConstants.{E_OK}
-use Rattle.tm_kernel.specs.Mailboxes.{MailboxesView, send_status, put_last}
+use Rattle.tm_kernel.specs.Mailboxes.{send_status, put_last}
 use Rattle.tm_kernel.specs.State.{KernelState}
 use Rattle.tm_kernel.proofs.Keeping.{boxes_sent}
 use Rattle.tm_kernel.proofs.kernel.Kernel.send.Goals as goal

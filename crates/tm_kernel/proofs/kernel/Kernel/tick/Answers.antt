@@ -1,4 +1,4 @@
-use Rattle.std.proofs.Common.{◌≡◌, ℕ, ◌++◌, ◌-◌, Bool, false, List, length, map, replicate, refl, ap, sym, ◌∙◌, subst}
+use Rattle.std.proofs.Common.{◌≡◌, Bool, List, length, ap, ◌∙◌, subst}
 use Rattle.std.specs.List.{fold}
 use Rattle.std.proofs.lemmas.List.{length-map}
 use Rattle.tm_services.specs.Alarms.{AlarmsView, ticked, due, is_due}

@@ -1,4 +1,4 @@
-use Rattle.std.proofs.Common.{◌≡◌, ◌+◌, ◌<◌, ◌≤◌, length, set, ap, sym, ◌∙◌, subst, refl, arith}
+use Rattle.std.proofs.Common.{◌+◌, ◌<◌, ◌≤◌, length, set, ap, sym, ◌∙◌, subst, refl, arith}
 use Rattle.tm_kernel.specs.Mailboxes.{MailboxView, MailboxesView, boxes_of}
 use Rattle.tm_kernel.proofs.Boxes.{IsCopied, copied_capacity, copied_more, copied_all}
 use Rattle.tm_kernel.proofs.mailbox.Mailboxes.copy_from.Goals as goal
