@@ -2,6 +2,7 @@
 
 ghost use Rattle.std.specs.Prelude.{◌≡◌, ◌≢◌, ℕ, ◌^◌, ◌<◌, ◌≤◌, ◌==◌, [], ◌∷◌, length, slice_get, option_map, IfOk, IfSome};
 ghost use Rattle.tm_task.specs.Exec.{exec, Calls, Faults};
+ghost use Rattle.tm_task.specs.RunsOn.{HasStopped};
 ghost use Rattle.tm_task.specs.Standing.{begins_epoch};
 ghost use Rattle.tm_kernel.specs.State.{IsRunning, nobody, state_number};
 ghost use Rattle.tm_image.specs.Image.{ImageView, text_of};
@@ -132,6 +133,7 @@ impl Machine {
         ensures within { result ≤ most }
         ensures at { (h : History) → IsAt image.now self.old h → IsAt image.now self.new (turns image.now result h) }
         ensures quiet { (h : History) → IsAt image.now self.old h → (i : ℕ) → i < result → IsQuiet image.now (turns image.now i h) }
+        ensures stopped { result < most → IfSome (slice_get self.new.tasks self.new.kernel.running) (HasStopped (text_of image.now self.new.kernel.running)) }
         ensures kernel { self.new.kernel ≡ self.old.kernel }
         ensures sound { IsMachine self.new }
     {
@@ -215,6 +217,7 @@ impl Machine {
         requires epoch { IfSome (slice_get self.old.tasks task) (λ t. t.standing.epoch < 2 ^ 53) }
         ensures within { result ≤ most }
         ensures ran { RunsTask text.now task self.old result self.new }
+        ensures stopped { result < most → IfSome (slice_get self.new.tasks task) (HasStopped text.now) }
         ensures sound { IsMachine self.new }
     {
         self.tasks[usize::from(task)].advance(text, most)
