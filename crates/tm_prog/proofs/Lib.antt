@@ -3,6 +3,5 @@ pub mod TellerSteps
 pub mod Endings
 pub mod Noting
 pub mod Starting
-pub mod Playing
 pub mod Traced
 pub mod Stretching

@@ -19,7 +19,7 @@ use Rattle.tm_system.proofs.Lengths.{epochs_few, arrives_short, played_short}
 use Rattle.tm_prog.specs.Teller.{TellerView, Tells, Notes}
 use Rattle.tm_prog.specs.Tracing.{IsTraced, IsYoung}
 use Rattle.tm_prog.proofs.Noting.{noted, next_own, is_there}
-use Rattle.tm_prog.proofs.Playing.{turned_on}
+use Rattle.tm_system.proofs.Playing.{turned_on}
 
 -- an image has at most 16 tasks where a machine stands on it
 pub few_loads : (image : ImageView) (h : History) (machine : MachineView) → IsMachine machine → IsAt image machine h → length image.loads ≤ 16

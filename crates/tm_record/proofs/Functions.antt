@@ -21,7 +21,7 @@ use Rattle.tm_system.proofs.Stepping.{running_in}
 use Rattle.tm_record.specs.Recording.{task_in, noted}
 use Rattle.tm_log.specs.Window.{WindowView}
 use Rattle.tm_record.specs.Contents.{Moved, moved_by, moved, arrival_by, Contents, contents, with_moment, after_arrival, after_turn, after_turns}
-use Rattle.tm_record.proofs.Playing.{turned_on}
+use Rattle.tm_system.proofs.Playing.{turned_on}
 
 -- two lists with the same items
 same_gets : {A : Type 0} (a b : List A) → length a ≡ length b → ((t : ℕ) → t < length a → slice_get a t ≡ slice_get b t) → a ≡ b

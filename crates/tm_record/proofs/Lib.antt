@@ -1,7 +1,6 @@
 pub mod Lists
 pub mod Counts
 pub mod Bodies
-pub mod Playing
 pub mod Moments
 pub mod Ending
 pub mod Scripts

@@ -30,7 +30,7 @@ use Rattle.tm_record.specs.Window.{HoldsLists}
 use Rattle.tm_record.specs.Recording.{task_in, checkpoint_now, noted, entry_noted, check_noted, output_noted, switch_noted, HasRoom, Concerns, IsNoted, HaveBodies, IsYoung}
 use Rattle.tm_record.proofs.Lists.{Keeps, keeps_entry, keeps_check, keeps_output, keeps_switch}
 use Rattle.tm_record.proofs.Bodies.{turned_bodies, turns_bodies, arrives_bodies}
-use Rattle.tm_record.proofs.Playing.{turned_on}
+use Rattle.tm_system.proofs.Playing.{turned_on}
 use Rattle.tm_record.proofs.Counts.{entries_few, outputs_few, checkpoints_few}
 
 -- a window's shape has as many tasks as the image, and so have its lists

@@ -12,7 +12,7 @@ use Rattle.tm_system.proofs.Lengths.{played_short}
 use Rattle.tm_record.specs.StandsFor.{RecorderView, StandsFor, IsReal}
 use Rattle.tm_record.specs.Recording.{IsYoung, IsRecorded}
 use Rattle.tm_record.proofs.Bodies.{boot_bodies, played_bodies}
-use Rattle.tm_record.proofs.Playing.{played_more}
+use Rattle.tm_system.proofs.Playing.{played_more}
 
 -- what is recorded at boot stands for no slice
 pub stands_at_boot : (image : ImageView) (machine : MachineView) (w : WindowView) → IsRecorded image machine w [] →

@@ -10,9 +10,10 @@ use Rattle.tm_kernel.specs.State.{nobody}
 use Rattle.tm_kernel.proofs.Keeping.{slice_get_set_same}
 use Rattle.tm_image.specs.Image.{ImageView, text_of}
 use Rattle.tm_system.specs.History.{History}
-use Rattle.tm_system.specs.Run.{turned, turns}
+use Rattle.tm_system.specs.Run.{turns}
 use Rattle.tm_system.specs.Machine.{MachineView, IsAt, IsQuiet}
 use Rattle.tm_system.specs.Parts.{StepsTask, RunsTask}
+use Rattle.tm_system.proofs.Playing.{turns_none, turns_next}
 use Rattle.tm_system.proofs.Turning.{Runs}
 use Rattle.tm_system.proofs.Stepping.{put_stays, ran_at, ran_tells}
 
@@ -25,19 +26,11 @@ pub record HasAdvanced (image : ImageView) (h : History) (n : ℕ) (new : Machin
 abbrev with_task : MachineView → ℕ → TaskView → MachineView
 with_task old r t = record old { tasks = slice_set old.tasks r t }
 
-turns_none : (image : ImageView) (h : History) → h ≡ turns image zero h
-unfolding turns
-turns_none image h = refl
-
-turns_next : (image : ImageView) (n : ℕ) (h : History) → turned image (turns image n h) ≡ turns image (suc n) h
-unfolding turns
-turns_next image n h = refl
-
 -- no instruction
 stays_at : (image : ImageView) (h : History) (old : MachineView) (r : ℕ) (before after : TaskView) → IsAt image old h →
     slice_get old.tasks r ≡ Some before → after ≡ before → HasAdvanced image h zero (with_task old r after)
 stays_at image h old r before after at there same = record {
-  at = subst (λ (x : History). IsAt image (with_task old r after) x) (turns_none image h)
+  at = subst (λ (x : History). IsAt image (with_task old r after) x) (sym (turns_none image h))
       (subst (λ (m : MachineView). IsAt image m h) (sym (put_stays old (with_task old r after) r before after there same refl)) at);
   quiet = λ i below. absurd (omega arith);
 }

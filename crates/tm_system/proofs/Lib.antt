@@ -4,6 +4,7 @@ pub mod Turning
 pub mod Calling
 pub mod Stepping
 pub mod Adding
+pub mod Playing
 pub mod Advancing
 pub mod Quieting
 pub mod Booting

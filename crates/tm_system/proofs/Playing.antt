@@ -11,6 +11,10 @@ use Rattle.tm_system.specs.Run.{running_at, next_moment, turned, turns, sliced, 
 pub turned_on : (image : ImageView) (h : History) → running_at image h ≢ nobody → turned image h ≡ next_moment image h ∷ h
 turned_on image h somebody = rw (ne_eqb _ _ somebody) refl
 
+pub turns_next : (image : ImageView) (n : ℕ) (h : History) → turned image (turns image n h) ≡ turns image (suc n) h
+unfolding turns
+turns_next image n h = refl
+
 pub turns_more : (image : ImageView) (n : ℕ) (h : History) → turns image (n + 1) h ≡ turned image (turns image n h)
 unfolding turns
 turns_more image n h = rw add-one refl

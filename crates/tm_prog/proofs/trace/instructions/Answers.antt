@@ -4,7 +4,7 @@ use Rattle.tm_system.specs.History.{History}
 use Rattle.tm_system.specs.Run.{turns, running_at}
 use Rattle.tm_system.proofs.Adding.{turns_add}
 use Rattle.tm_prog.specs.Tracing.{IsTraced}
-use Rattle.tm_prog.proofs.Playing.{turns_none, turns_idle}
+use Rattle.tm_system.proofs.Playing.{turns_none, turns_idle}
 use Rattle.tm_prog.proofs.Stretching.{young_later}
 use Rattle.tm_prog.proofs.trace.instructions.Goals as goal
 

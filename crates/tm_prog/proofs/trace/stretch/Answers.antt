@@ -2,7 +2,7 @@ use Rattle.std.proofs.Common.{sym, subst, arith}
 use Rattle.tm_system.specs.History.{History}
 use Rattle.tm_system.specs.Run.{turns}
 use Rattle.tm_prog.specs.Tracing.{IsTraced}
-use Rattle.tm_prog.proofs.Playing.{turns_more}
+use Rattle.tm_system.proofs.Playing.{turns_more}
 use Rattle.tm_prog.proofs.Stretching.{advanced_traced, young_now, young_later}
 use Rattle.tm_prog.proofs.Traced.{epoch_few}
 use Rattle.tm_prog.proofs.trace.stretch.Goals as goal

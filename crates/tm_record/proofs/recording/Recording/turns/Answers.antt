@@ -4,7 +4,7 @@ use Rattle.tm_system.specs.History.{History}
 use Rattle.tm_system.specs.Run.{turns, running_at}
 use Rattle.tm_record.specs.Recording.{IsNoted}
 use Rattle.tm_record.specs.Contents.{contents, after_turn, after_turns}
-use Rattle.tm_record.proofs.Playing.{turns_none, turns_more, turns_idle}
+use Rattle.tm_system.proofs.Playing.{turns_none, turns_more, turns_idle}
 use Rattle.tm_record.proofs.Functions.{after_none, after_more, after_idle}
 use Rattle.tm_record.proofs.Moments.{turns_young}
 use Rattle.tm_record.proofs.recording.Recording.turns.Goals as goal
