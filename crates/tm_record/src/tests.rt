@@ -1,5 +1,7 @@
 //! Recorders of small images, slice by slice, and that threads may share them.
 
+mod windows;
+
 use super::Recorder;
 use std::alloc::Global;
 use std::process::Abort;
