@@ -1,5 +1,6 @@
 pub mod Caps
 pub mod Window
+pub mod WellFormed
 pub use Rattle.tm_marker.specs.Shape
 pub use Rattle.tm_ring.specs.Buffer
 pub use Rattle.tm_ring.specs.Kept
