@@ -10,11 +10,8 @@ use Rattle.tm_text.specs.declared.seen.Track.{Track}
 use Rattle.tm_text.specs.Views.{view_of, last_of, lasts_of}
 use Rattle.tm_system.specs.Telling.{below, number_of}
 use Rattle.tm_system.specs.Machine.{MachineView}
+use Rattle.tm_system.proofs.Below.{length-below}
 use Rattle.tm_prog.specs.Teller.{printed_by, view_in, state_in, last_in, TracksFirst}
-
-pub length-below : {A : Type 0} (n : ℕ) (f : ℕ → A) → length (below n f) ≡ n
-length-below zero f = refl
-length-below (suc n) f = length-append (below n f) (f n ∷ []) ∙ omega (arith, length-below n f)
 
 small_state : (state : TaskState) → state_number state ≤ 3
 small_state Suspended = omega arith

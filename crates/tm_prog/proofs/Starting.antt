@@ -12,38 +12,11 @@ use Rattle.tm_system.specs.Run.{now, running_at, body_at}
 use Rattle.tm_system.specs.Controls.{controls}
 use Rattle.tm_system.specs.Telling.{below, number_of, start_at, last_at, printed, pending, blocks, story}
 use Rattle.tm_system.specs.Machine.{MachineView, IsAt}
+use Rattle.tm_system.proofs.Below.{length-below, below_same, slice_get-below}
 use Rattle.tm_prog.specs.Teller.{TellerView, Tells, TellsStart, start_by, start_in, view_in, words_in, last_in}
 use Rattle.tm_prog.specs.Tracing.{IsTraced}
-use Rattle.tm_prog.proofs.Endings.{length-below}
 use Rattle.tm_prog.proofs.Noting.{view_at_is, words_at_is}
 use Rattle.tm_prog.proofs.TellerSteps.{end_told}
-
-pub below_same : {A : Type 0} (n : ℕ) (f g : ℕ → A) → ((t : ℕ) → t < n → f t ≡ g t) → below n f ≡ below n g
-below_same zero f g same = refl
-below_same (suc n) f g same =
-    ap (λ xs. xs ++ f n ∷ []) (below_same n f g (λ t lt. same t (omega arith))) ∙ ap (λ x. below n g ++ x ∷ []) (same n (omega arith))
-
-get_front : {A : Type 0} (xs : List A) (y : A) (t : ℕ) → t < length xs → slice_get (xs ++ y ∷ []) t ≡ slice_get xs t
-get_front [] y t lt = absurd (omega arith)
-get_front (x ∷ xs) y zero lt = refl
-get_front (x ∷ xs) y (suc t) lt = get_front xs y t (omega arith)
-
-get_last : {A : Type 0} (xs : List A) (y : A) → slice_get (xs ++ y ∷ []) (length xs) ≡ Some y
-get_last [] y = refl
-get_last (x ∷ xs) y = get_last xs y
-
-pub slice_get-below : {A : Type 0} (n : ℕ) (f : ℕ → A) (t : ℕ) → t < n → slice_get (below n f) t ≡ Some (f t)
-slice_get-below zero f t lt = absurd (omega arith)
-slice_get-below (suc n) f t lt =
-    elim (cases_Bool (t == n)) [
-      | inl e ↦
-          let is : t ≡ n = eqb-true t n e in
-          ap (λ k. slice_get (below n f ++ f n ∷ []) k) (is ∙ sym (length-below n f)) ∙ get_last (below n f) (f n) ∙ ap (λ k. Some (f k)) (sym is)
-      | inr e ↦
-          let other : t ≡ n → ⊥ = eqb-false t n e in
-          let before : t < n = omega (arith, lt, other) in
-          get_front (below n f) (f n) t (rw length-below before) ∙ slice_get-below n f t before
-    ]
 
 below_nobody : (image : ImageView) (t : ℕ) → length image.loads ≤ 16 → t < length image.loads → t ≢ nobody
 below_nobody image t few there q = (let big : nobody < 16 = omega (arith, there, few, q) in absurd (omega arith))

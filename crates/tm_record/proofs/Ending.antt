@@ -32,7 +32,7 @@ got_mapped f [] i y e = cc
 got_mapped f (x ∷ xs) zero y e = cc
 got_mapped f (x ∷ xs) (suc i) y e = got_mapped f xs i y e
 
-mapped_got : {A B : Type 0} (f : A → B) (xs : List A) (i : ℕ) → slice_get (map f xs) i ≡ option_map f (slice_get xs i)
+pub mapped_got : {A B : Type 0} (f : A → B) (xs : List A) (i : ℕ) → slice_get (map f xs) i ≡ option_map f (slice_get xs i)
 mapped_got f [] i = refl
 mapped_got f (x ∷ xs) zero = refl
 mapped_got f (x ∷ xs) (suc i) = mapped_got f xs i

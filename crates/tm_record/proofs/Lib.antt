@@ -7,3 +7,4 @@ pub mod Scripts
 pub mod Functions
 pub mod Consistent
 mod Copying
+pub mod WindowOf

@@ -1,5 +1,6 @@
 pub mod Window
 pub mod StandsFor
+pub mod WindowOf
 pub mod Recording
 pub mod Contents
 pub mod Laws

@@ -11,7 +11,7 @@ mod noting;
 mod recorder;
 mod recording;
 
-pub use laws::recorders_are_consistent;
+pub use laws::{recorders_are_consistent, windows_are_of_runs};
 pub use recorder::Recorder;
 
 #[cfg(test)]

@@ -11,5 +11,6 @@ pub mod Booting
 pub mod Following
 pub mod Lengths
 pub mod Texts
+pub mod Below
 pub mod Gaining
 mod Copied

@@ -1,7 +1,8 @@
 use Rattle.std.proofs.Common.{◌≡◌, ◌≤◌, length, ap, sym, subst, arith, All, List, ℕ}
 use Rattle.tm_system.specs.Telling.{below}
 use Rattle.tm_prog.specs.Teller.{state_in}
-use Rattle.tm_prog.proofs.Endings.{length-below, states_named}
+use Rattle.tm_system.proofs.Below.{length-below}
+use Rattle.tm_prog.proofs.Endings.{states_named}
 use Rattle.tm_prog.proofs.teller.Teller.end.Goals as goal
 
 pub write_end-requires-clause-states : goal.write_end-requires-clause-states
