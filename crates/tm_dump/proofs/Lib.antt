@@ -1,0 +1,4 @@
+pub mod Lengths
+pub mod Writing
+pub mod Bounds
+pub mod Most

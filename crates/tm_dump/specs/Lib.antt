@@ -1,0 +1,4 @@
+pub mod Dump
+pub mod Fields
+pub mod Laws
+pub mod Room
