@@ -1,0 +1,5 @@
+pub mod Scanning
+pub mod Least
+pub mod Replayable
+pub mod Markers
+pub mod Candidates

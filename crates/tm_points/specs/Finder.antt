@@ -1,0 +1,59 @@
+-- From which points a window can be replayed, and what is missing where it can't.
+use Rattle.std.specs.Prelude.{ℕ, ◌+◌, ◌-◌, ◌==◌, ◌&&◌, if◌then◌else◌, nat_lt, zero, suc, List, length, drop, find, slice_get, unwrap_or, option_map, Option, Some, None}
+use Rattle.std.specs.Option.{option_or}
+use Rattle.tm_marker.specs.declared.marker.Marker.{Marker}
+use Rattle.tm_marker.specs.declared.entries.Switch.{Switch}
+use Rattle.tm_ring.specs.Kept.{Kept, first_of}
+use Rattle.tm_check.specs.Checkpoint.{Checkpoint, check_of}
+use Rattle.tm_log.specs.Window.{WindowView, zero_marker, log_of, checks_of}
+use Rattle.tm_points.specs.declared.finder.Lost.{Lost}
+use Rattle.tm_points.specs.declared.finder.Lost.TheVariants.{Unknown, Control, Check, Data}
+
+-- the kept control entries from a ring number on
+abbrev pub entries_from : Kept Switch → ℕ → List Switch
+entries_from control number = drop (number - first_of control) control.items
+
+-- the marker with which the first of the entries that switches to a task resumes it
+abbrev pub resumed_in : List Switch → ℕ → Option Marker
+resumed_in entries task = option_map (λ entry. entry.to_at) (find (λ entry. entry.to == task) entries)
+
+-- a task's marker at the last moment
+abbrev pub tail_marker : WindowView → ℕ → Marker
+tail_marker w task = unwrap_or (slice_get w.tail.at task) zero_marker
+
+-- a task's marker at a point. Point 0 is boot, and point P is right after the entry of ring number
+-- P - 1. A task that doesn't run stands still, so its marker is the one with which it is next resumed,
+-- by that entry or a later one, or its last one where none resumes it.
+abbrev pub marker_at_point : WindowView → ℕ → ℕ → Marker
+marker_at_point w point task =
+    unwrap_or (resumed_in (entries_from w.control (point - 1)) task) (tail_marker w task)
+
+-- the least point whose own entry is kept, where some were dropped
+abbrev pub least_point : WindowView → ℕ
+least_point w = first_of w.control + 1
+
+-- what a task lacks that needs the checkpoint of an epoch, and with it the data entries from the
+-- checkpoint's number on, of which those from the first on are kept
+abbrev pub lost_of_check : ℕ → ℕ → ℕ → Option Checkpoint → Option Lost
+lost_of_check task epoch first None = Some (Check task epoch)
+lost_of_check task epoch first (Some c) =
+    if nat_lt c.data_number first then Some (Data task c.data_number first) else None
+
+-- what a task lacks to be replayed from a point
+abbrev pub lost_of_task : WindowView → ℕ → ℕ → Option Lost
+lost_of_task w point task =
+    let epoch = (marker_at_point w point task).epoch in
+    lost_of_check task epoch (first_of (log_of w task)) (check_of (checks_of w task) epoch)
+
+-- the answer of the least number, among so many, for which there is one
+abbrev pub least_answer : {X : Type 0} → (ℕ → Option X) → ℕ → Option X
+least_answer answer zero = None
+least_answer answer (suc n) = option_or (least_answer answer n) (answer n)
+
+-- why a window can't be replayed from a point, where it can't: the point was not reached; or its own
+-- entry or a later one was dropped; or the least task that lacks something lacks that
+unfoldable pub lost_of : WindowView → ℕ → Option Lost
+lost_of w point =
+    if nat_lt w.control.total point then Some (Unknown w.control.total)
+    else if nat_lt 0 (first_of w.control) && nat_lt point (least_point w) then Some (Control (least_point w))
+    else least_answer (lost_of_task w point) (length w.shape.words)
