@@ -27,7 +27,7 @@ use Rattle.tm_record.proofs.Counts.{entries_few, outputs_few, checkpoints_few}
 use Rattle.tm_record.proofs.Moments.{shape_tasks}
 
 -- the run of the script that a recorder stands for is as long as its slices could make it
-run_short : (r : RecorderView) (real : IsReal r) → length (run r.image real.script) ≤ r.slices * 1048577
+pub run_short : (r : RecorderView) (real : IsReal r) → length (run r.image real.script) ≤ r.slices * 1048577
 run_short r real =
     let short : All (λ (s : Slice). s.length ≤ 1048576) real.script = λ k d below. (real.valid k d below).short in
     omega (arith, played_short r.image real.script [] short, real.stands.slices)

@@ -1,15 +1,14 @@
 -- Recorders of one image have machines and windows of one size.
-use Rattle.std.proofs.Common.{◌≡◌, ℕ, ◌<◌, [], length, map, get_or, ap, sym, ◌∙◌, arith, unwrap_or, Option}
+use Rattle.std.proofs.Common.{◌≡◌, ℕ, ◌<◌, [], length, ap, sym, ◌∙◌, arith, unwrap_or, Option}
 use Rattle.std.proofs.lemmas.List.{length-map, get_or-map, same_lists}
 use Rattle.std.proofs.lemmas.Option.{unwrap_or-slice_get}
 use Rattle.tm_task.specs.Standing.{TaskView, task_view, boot_body}
-use Rattle.tm_image.specs.Image.{Load, ImageView, IsImage, shape_of, load_of}
+use Rattle.tm_image.specs.Image.{Load, ImageView, IsImage, shape_of}
 use Rattle.tm_system.specs.History.{History}
 use Rattle.tm_system.specs.Run.{run}
-use Rattle.tm_system.specs.Machine.{task_at}
 use Rattle.tm_system.specs.Parts.{word_counts}
 use Rattle.tm_record.specs.StandsFor.{RecorderView, IsReal}
-use Rattle.tm_record.specs.Recording.{task_in, HaveBodies}
+use Rattle.tm_record.specs.Recording.{HaveBodies}
 use Rattle.tm_record.proofs.Bodies.{boot_bodies, played_bodies}
 
 abbrev count : TaskView → ℕ

@@ -49,7 +49,7 @@ at_same image a b h x y =
     (x.kernel ∙ sym y.kernel)
 
 -- the running task of a machine, as it is read
-runner : (image : ImageView) (h : History) (m : MachineView) (r : ℕ) → Runs image h m r → task_in m r ≡ task_at image h r
+pub runner : (image : ImageView) (h : History) (m : MachineView) (r : ℕ) → Runs image h m r → task_in m r ≡ task_at image h r
 runner image h m r runs = ap (λ (o : Option TaskView). unwrap_or o (task_view 0 (boot_body 0 []) 0 0)) (runs.at.each r runs.there)
 
 runner_there : (image : ImageView) (h : History) (m : MachineView) (r : ℕ) → Runs image h m r → slice_get m.tasks r ≡ Some (task_in m r)
@@ -91,11 +91,11 @@ goes_starts r back count = rw (eq-eqb r r refl) refl
 no_switch : (image : ImageView) (m : Moment) (h : History) → m.leaves ≡ None → m.after.kernel.running ≡ running_at image h → is_switch image m h ≡ false
 no_switch image m h stays same = rw (stays, same, eq-eqb (running_at image h) (running_at image h) refl) refl
 
--- what is told of an instruction
-pub moved_told : (image : ImageView) (h : History) (m : MachineView) (r : ℕ) (e : Exec) → Runs image h m r →
-    exec (text_of image r) (task_in m r).standing.body ≡ e → IsMachine (moved_by m r (task_in m r) e).machine →
-    (moved_by m r (task_in m r) e).told ≡ told_of image (next_moment image h) h
-moved_told image h m r (Goes next back) runs did sound =
+-- what is told of an instruction that goes on
+pub gone_told : (image : ImageView) (h : History) (m : MachineView) (r : ℕ) (next : Body) (back : Bool) → Runs image h m r →
+    exec (text_of image r) (task_in m r).standing.body ≡ Goes next back →
+    (moved_by m r (task_in m r) (Goes next back)).told ≡ told_of image (next_moment image h) h
+gone_told image h m r next back runs did =
     let t : TaskView = task_in m r in
     let n : Moment = moment_by (entry_of image r) (now image h) r (body_at image h r) (Goes next back) in
     let executes : exec (text_of image r) (body_at image h r) ≡ Goes next back =
@@ -109,6 +109,12 @@ moved_told image h m r (Goes next back) runs did sound =
     (sym (ap (λ (b : Bool). if b then Some (switch_at image n h) else None) (no_switch image n h refl refl)))
     refl
     (ap (λ (k : KernelState). k.running == nobody) runs.at.kernel))
+
+-- what is told of an instruction
+pub moved_told : (image : ImageView) (h : History) (m : MachineView) (r : ℕ) (e : Exec) → Runs image h m r →
+    exec (text_of image r) (task_in m r).standing.body ≡ e → IsMachine (moved_by m r (task_in m r) e).machine →
+    (moved_by m r (task_in m r) e).told ≡ told_of image (next_moment image h) h
+moved_told image h m r (Goes next back) runs did sound = gone_told image h m r next back runs did
 moved_told image h m r (Calls service) runs did sound =
     let t : TaskView = task_in m r in
     let a : Answered = answer m.kernel r service (args_of t.standing.body) in
@@ -197,3 +203,12 @@ after_idle image n (suc k) c idle =
     let next : after_turns image (n + suc k) c ≡ after_turn image (after_turns image (n + k) c) =
     ap (λ m. after_turns image m c) (omega arith) ∙ after_more image (n + k) c in
     next ∙ ap (after_turn image) same ∙ rw (eq-eqb _ _ idle) refl
+
+-- some instructions, and then some more
+pub after_add : (image : ImageView) (a b : ℕ) (c : Contents) → after_turns image (a + b) c ≡ after_turns image b (after_turns image a c)
+after_add image a zero c = ap (λ n. after_turns image n c) (add-zero a) ∙ sym (after_none image (after_turns image a c))
+after_add image a (suc b) c =
+    let last : a + suc b ≡ (a + b) + 1 = omega arith in
+    let more : b + 1 ≡ suc b = omega arith in
+    ap (λ n. after_turns image n c) last ∙ after_more image (a + b) c ∙ ap (after_turn image) (after_add image a b c) ∙
+    sym (after_more image b (after_turns image a c)) ∙ ap (λ n. after_turns image n (after_turns image a c)) more

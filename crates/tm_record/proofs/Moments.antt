@@ -231,10 +231,10 @@ pub arrival_room : (image : ImageView) (before after : MachineView) (w : WindowV
 arrival_room image before after w mask ports window y at =
     has_room image after w y.history (arrives image mask ports y.history) window y.noted.shape y.noted.lists at (arrives_bodies image mask ports y.history y.bodies) (omega (arith, y.few))
 
--- in the midst of instructions
-pub turns_young : (image : ImageView) (h : History) (i n : ℕ) (machine : MachineView) (w : WindowView) → IsImage image → HaveBodies image h →
-    length h + n + 2 < 2 ^ 53 → i < n → IsNoted image machine w (turns image i h) → IsYoung image machine w 0
-turns_young image h i n machine w image_is b few within noted = record {
+-- in the midst of instructions there is room for those that are left
+pub turns_young : (image : ImageView) (h : History) (i n left : ℕ) (machine : MachineView) (w : WindowView) → IsImage image → HaveBodies image h →
+    length h + n + 2 < 2 ^ 53 → i + left ≤ n → IsNoted image machine w (turns image i h) → IsYoung image machine w left
+turns_young image h i n left machine w image_is b few within noted = record {
   history = turns image i h;
   noted = noted;
   bodies = turns_bodies image i h image_is b;

@@ -21,7 +21,12 @@ stands_at_boot image machine w r = record { opened = refl; machine = r.at; windo
 
 pub real_at_boot : (image : ImageView) (machine : MachineView) (w : WindowView) → IsRecorded image machine w [] →
     IsReal (record { image = image; machine = machine; window = w; slices = 0 })
-real_at_boot image machine w r = record { script = []; valid = All-nil IsSlice; stands = stands_at_boot image machine w r }
+real_at_boot image machine w r = record {
+  script = [];
+  valid = All-nil IsSlice;
+  stands = stands_at_boot image machine w r;
+  few = omega arith;
+}
 
 -- a recorder that stands for a script has room for one more slice
 pub real_young : (r : RecorderView) → IsImage r.image → IsReal r → r.slices < 2 ^ 32 - 1 → IsYoung r.image r.machine r.window 1048577
@@ -57,11 +62,12 @@ one_slice : (s : Slice) → IsSlice s → All IsSlice (s ∷ [])
 one_slice s valid zero d below = valid
 one_slice s valid (suc k) d below = absurd (omega arith)
 
-pub real_more : (old : RecorderView) (machine : MachineView) (w : WindowView) (s : Slice) → IsSlice s →
+pub real_more : (old : RecorderView) (machine : MachineView) (w : WindowView) (s : Slice) → IsSlice s → old.slices < 2 ^ 32 - 1 →
     ((h : History) → IsRecorded old.image old.machine old.window h → IsRecorded old.image machine w (sliced old.image h s)) →
     IsReal old → IsReal (record { image = old.image; machine = machine; window = w; slices = old.slices + 1 })
-real_more old machine w s valid more real = record {
+real_more old machine w s valid few more real = record {
   script = real.script ++ s ∷ [];
   valid = All-append IsSlice real.script (s ∷ []) real.valid (one_slice s valid);
   stands = stands_more old.image old machine w real.script s more real.stands;
+  few = omega (arith, few);
 }

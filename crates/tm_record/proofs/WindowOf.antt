@@ -1,18 +1,16 @@
 -- The window of a recorder is that of its script's run: each of its lists is one that the run has left.
-use Rattle.std.proofs.Common.{◌≡◌, ℕ, ◌<◌, List, [], length, map, get_or, refl, ap, sym, ◌∙◌, arith, unwrap_or, slice_get, Option, option_map, Some}
+use Rattle.std.proofs.Common.{◌≡◌, ℕ, ◌<◌, List, [], length, map, get_or, ap, sym, ◌∙◌, arith, unwrap_or, Option}
 use Rattle.std.proofs.lemmas.List.{ext_get_or, length-map}
 use Rattle.std.proofs.lemmas.Option.{unwrap_or-slice_get, get_or_from_slice_get}
 use Rattle.tm_ring.specs.Buffer.{keep_last}
-use Rattle.tm_marker.specs.declared.marker.Marker.{Marker}
 use Rattle.tm_marker.specs.declared.shape.Shape.{Shape}
-use Rattle.tm_marker.specs.declared.tail.Tail.{Tail}
 use Rattle.tm_marker.specs.declared.entries.DataEntry.{DataEntry}
 use Rattle.tm_task.specs.Standing.{marker_of}
 use Rattle.tm_kernel.specs.State.{state_number}
 use Rattle.tm_image.specs.Image.{ImageView, IsImage, words_of, shape_of}
 use Rattle.tm_ring.specs.Kept.{Kept, kept, Holds}
 use Rattle.tm_check.specs.Checkpoint.{Checkpoint, KeptChecks, kept_checks, HoldsChecks}
-use Rattle.tm_log.specs.Window.{WindowView, IsWindow, no_task, zero_marker, log_of, checks_of}
+use Rattle.tm_log.specs.Window.{WindowView, IsWindow, zero_marker, log_of, checks_of}
 use Rattle.tm_system.specs.History.{History}
 use Rattle.tm_system.specs.Run.{now, run}
 use Rattle.tm_system.specs.Marks.{standing_at}

@@ -6,6 +6,7 @@ use Rattle.tm_kernel.specs.Nesting.{IsNested, IsSettled}
 use Rattle.tm_image.specs.Image.{IsImage, entry_of, words_of, shape_of}
 use Rattle.tm_check.specs.Checkpoint.{IsCheckKept}
 use Rattle.tm_log.specs.Window.{IsWindow, log_of, checks_of}
+use Rattle.tm_log.specs.WellFormed.{IsWellFormed}
 use Rattle.tm_record.specs.StandsFor.{RecorderView, IsReal}
 use Rattle.tm_record.specs.Recording.{task_in}
 
@@ -44,3 +45,8 @@ pub record IsOfImage (r : RecorderView) : Type 0 where
 
 abbrev pub RecordersAreOfTheirImage : Type 0
 RecordersAreOfTheirImage = (r : RecorderView) → IsImage r.image → IsWindow r.window → IsReal r → IsOfImage r
+
+-- the window is one that a run could have left, as far as its own numbers tell
+abbrev pub RecordersAreWellFormed : Type 0
+RecordersAreWellFormed = (r : RecorderView) → IsImage r.image → IsWindow r.window → IsReal r →
+    IsWellFormed r.window (shape_of r.image)

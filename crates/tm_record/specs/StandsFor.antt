@@ -1,5 +1,5 @@
 -- What a recorder stands for: a script.
-use Rattle.std.specs.Prelude.{◌≡◌, ℕ, List, length, All}
+use Rattle.std.specs.Prelude.{◌≡◌, ℕ, ◌^◌, ◌<◌, List, length, All}
 use Rattle.tm_marker.specs.declared.entries.Slice.{Slice}
 use Rattle.tm_image.specs.Image.{ImageView}
 use Rattle.tm_image.specs.Plan.{IsSlice}
@@ -22,8 +22,9 @@ pub record StandsFor (image : ImageView) (recorder : RecorderView) (script : Lis
   pub window : IsWindowOf image recorder.window (run image script)
   pub slices : recorder.slices ≡ length script
 
--- what every recorder keeps: there is a script of valid slices that it stands for
+-- what every recorder keeps: there is a script of valid slices that it stands for, fewer than 2^32
 pub record IsReal (recorder : RecorderView) : Type 0 where
   pub script : List Slice
   pub valid : All IsSlice script
   pub stands : StandsFor recorder.image recorder script
+  pub few : recorder.slices < 2 ^ 32

@@ -1,6 +1,6 @@
 //! The inner layer: a machine and the window of its run, moment by moment, for every image and history.
 
-ghost use Rattle.std.specs.Prelude.{◌≡◌, ◌≢◌, ℕ, ◌+◌, ◌<◌, [], length, IfOk};
+ghost use Rattle.std.specs.Prelude.{◌≡◌, ◌≢◌, ℕ, ◌+◌, ◌<◌, ◌≤◌, [], length, IfOk};
 ghost use Rattle.tm_kernel.specs.State.{nobody};
 ghost use Rattle.tm_image.specs.Image.{IsImage};
 ghost use Rattle.tm_image.specs.Plan.{IsSlice};
@@ -103,6 +103,31 @@ impl Recording {
         note(&self.machine, &mut self.window, task, &told);
     }
 
+    /// One stretch of the running task, and how many instructions it has, 1 to `most`: those that add to no
+    /// list, and the next one.
+    #[inline]
+    fn stretch(&mut self, image: &Image, most: u32) -> u32
+        requires some { 0 < most }
+        requires runs { self.old.machine.kernel.running ≢ nobody }
+        requires image { IsImage image.now }
+        requires young { IsYoung image.now self.old.machine self.old.window most }
+        ensures some { 0 < result }
+        ensures within { result ≤ most }
+        ensures noted { (h : History) → IsNoted image.now self.old.machine self.old.window h →
+            IsNoted image.now self.new.machine self.new.window (turns image.now result h) }
+        ensures contents { contents self.new.machine self.new.window
+            ≡ after_turns image.now result (contents self.old.machine self.old.window) }
+    {
+        // The machine keeps what its type says.
+        let _running = self.machine.running();
+        let went = self.machine.advance(image, most);
+        if went == most {
+            return went;
+        }
+        self.turn(image);
+        went + 1
+    }
+
     /// Up to so many instructions, while a task runs.
     fn turns(&mut self, image: &Image, most: u32)
         requires image { IsImage image.now }
@@ -112,11 +137,9 @@ impl Recording {
         ensures contents { contents self.new.machine self.new.window
             ≡ after_turns image.now most (contents self.old.machine self.old.window) }
     {
-        for _turn in 0..most {
-            if self.machine.running() == NOBODY {
-                break;
-            }
-            self.turn(image);
+        let mut done = 0;
+        while done < most && self.machine.running() != NOBODY {
+            done += self.stretch(image, most - done);
         }
     }
 }

@@ -1,5 +1,5 @@
 -- Tasks of equal sizes, one by one.
-use Rattle.std.proofs.Common.{◌≡◌, ℕ, ◌<◌, List, length, map, get_or, ap, sym, ◌∙◌, arith}
+use Rattle.std.proofs.Common.{◌≡◌, ℕ, ◌<◌, List, length, get_or, ap, sym, ◌∙◌, arith}
 use Rattle.std.proofs.lemmas.List.{length-map, get_or-map}
 use Rattle.tm_task.specs.Standing.{TaskView}
 use Rattle.tm_system.specs.Parts.{word_counts}

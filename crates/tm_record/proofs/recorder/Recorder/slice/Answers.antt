@@ -7,7 +7,8 @@ pub slice-requires-clause-young : goal.slice-requires-clause-young
 slice-requires-clause-young c = real_young _ c.tasks-tasks.ensures.sound c.self.invariant (omega (arith, c.requires.few, ap (λ (r : RecorderView). r.slices) c.self.view_is))
 
 pub invariant_of-self : goal.invariant_of-self
-invariant_of-self c = real_more _ _ _ _ (search rules) c.slice.ensures.recorded c.self.invariant
+invariant_of-self c =
+    real_more _ _ _ _ (search rules) (omega (arith, c.requires.few, ap (λ (r : RecorderView). r.slices) c.self.view_is)) c.slice.ensures.recorded c.self.invariant
 
 pub returns-clause-stands : goal.returns-clause-stands
 returns-clause-stands c = λ image script stands.
