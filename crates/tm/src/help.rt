@@ -3,21 +3,22 @@
 pub const VERSION: &str = "tm 0.1.0\n";
 
 pub const HELP: &str = "\
-tm runs preemptive control software and prints what it did.
+tm runs preemptive control software, and prints or records what it did.
 
-    tm trace IMAGE PLAN    prints the whole run of the plan on the image, from boot
-    tm --help              prints this
-    tm --version           prints the version
+    tm trace IMAGE PLAN         prints the whole run of the plan on the image, from boot
+    tm record IMAGE PLAN DUMP   puts the dump of that run's buffers, and prints nothing
+    tm --help                   prints this
+    tm --version                prints the version
 
-IMAGE and PLAN are names of files. A name isn't empty and doesn't begin with a dash.
+IMAGE, PLAN and DUMP are names of files. A name isn't empty and doesn't begin with a dash.
 A status other than 0 is told by one line on standard error.
 
-    0   the text was printed
+    0   the text was printed, or the dump put
     2   the words are of no form above
     3   a file can't be read
     4   the image is refused, by its first bad line
     5   the plan is refused, by its first bad line
-    9   standard output takes no more bytes
+    9   standard output takes no more bytes, or the dump can't be put
     10  the first or the second file is longer than its limit
     11  there is not enough memory
 ";

@@ -5,3 +5,5 @@ pub mod Noting
 pub mod Starting
 pub mod Traced
 pub mod Stretching
+pub mod Delivering
+pub mod Reading

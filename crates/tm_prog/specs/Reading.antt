@@ -7,11 +7,12 @@ use Rattle.tm_prog.specs.declared.status.Status.{Status}
 use Rattle.tm_prog.specs.declared.status.Status.TheVariants as status
 use Rattle.tm_prog.specs.declared.words.Form.{Form}
 use Rattle.tm_prog.specs.declared.words.Form.TheVariants as form
-use Rattle.tm_prog.specs.Command.{Command, Trace}
+use Rattle.tm_prog.specs.Command.{Command, Trace, Record}
 
 -- the command that the words of a form ask for
 abbrev pub asked : Form → Command
 asked (form.Trace image plan) = Trace image.now plan.now
+asked (form.Record image plan dump) = Record image.now plan.now dump.now
 
 -- of a shelf, as its members show it, all but the count of gets is as before, and that count did not fall
 pub record OnlyGets {S : Type 0} (tells : S → Bool) (content : S → List ℕ → Option (List ℕ)) (gets : S → ℕ) (puts : S → ℕ) (calm : S → Bool) (room : S → List ℕ → Option ℕ) (old : S) (new : S) : Type 0 where

@@ -36,13 +36,19 @@ fn sink(alloc: Global, fail: &[u64]) -> Result<MemSink, AllocError> {
     Ok(sink)
 }
 
-/// What the words, parted by blanks, answer.
-fn answered(alloc: Global, words: &str, out: &mut MemSink) -> Result<Status, AllocError> {
+/// The words, parted by blanks.
+fn words(alloc: Global, line: &str) -> Result<Vec<String>, AllocError> {
     let mut list = Vec::new(alloc);
-    for word in words.split(' ') {
+    for word in line.split(' ') {
         list.push(String::from_str(alloc, word)?)?;
     }
-    Ok(tm(alloc, list.as_slice(), &mut shelf(alloc)?, out))
+    Ok(list)
+}
+
+/// What the words answer over a shelf of the image and the plan.
+fn answered(alloc: Global, line: &str, out: &mut MemSink) -> Result<Status, AllocError> {
+    let words = words(alloc, line)?;
+    Ok(tm(alloc, words.as_slice(), &mut shelf(alloc)?, out))
 }
 
 #[test]
@@ -65,9 +71,45 @@ fn a_failing_write_leaves_a_beginning(rt: HostRuntime) -> Result<(), Fail> {
 }
 
 #[test]
+fn the_dump_of_a_run_is_put_and_nothing_printed(rt: HostRuntime) -> Result<(), Fail> {
+    let alloc = rt.alloc();
+    let mut shelf = shelf(alloc)?;
+    shelf.room("d", 508)?;
+    let mut out = sink(alloc, &[])?;
+    let words = words(alloc, "record i p d")?;
+    assert_eq!(rt;
+        tm(alloc, words.as_slice(), &mut shelf, &mut out),
+        Status::Ok
+    );
+    let dump = shelf.content("d").expect(&rt, "the dump");
+    assert_eq!(rt; dump.len(), 508);
+    assert_eq!(rt; &dump[..5], b"TMDP\x01".as_slice());
+    // The first entry is from nobody, idle; the second from task 0, which ends.
+    assert_eq!(rt; &dump[46..48], [0xff, 5].as_slice());
+    assert_eq!(rt; &dump[81..83], [0, 2].as_slice());
+    assert_eq!(rt; shelf.content("p"), Some(PLAN));
+    assert_eq!(rt; out.bytes(), b"".as_slice());
+    Ok(())
+}
+
+#[test]
+fn a_dump_without_room_is_a_write_fault(rt: HostRuntime) -> Result<(), Fail> {
+    let mut out = sink(rt.alloc(), &[])?;
+    assert_eq!(rt;
+        answered(rt.alloc(), "record i p d", &mut out)?,
+        Status::WriteFault
+    );
+    Ok(())
+}
+
+#[test]
 fn refusals_print_nothing(rt: HostRuntime) -> Result<(), Fail> {
     let mut out = sink(rt.alloc(), &[])?;
     assert_eq!(rt; answered(rt.alloc(), "trace i", &mut out)?, Status::Words);
+    assert_eq!(rt;
+        answered(rt.alloc(), "record i p", &mut out)?,
+        Status::Words
+    );
     assert_eq!(rt;
         answered(rt.alloc(), "trace i -p", &mut out)?,
         Status::Words

@@ -8,7 +8,16 @@ ghost use Rattle.tm_prog.specs.Reading.{asked};
 #[derive(Clone, Copy)]
 pub(crate) enum Form<'a> {
     /// `trace IMAGE PLAN`
-    Trace { image: &'a str, plan: &'a str },
+    Trace {
+        image: &'a str,
+        plan: &'a str,
+    },
+    /// `record IMAGE PLAN DUMP`
+    Record {
+        image: &'a str,
+        plan: &'a str,
+        dump: &'a str,
+    },
 }
 
 /// The form that the words have. A first word that is no command, a missing or surplus word and a
@@ -22,6 +31,17 @@ pub(crate) fn form_of(words: &[String]) -> Option<Form<'_>>
             Some(Form::Trace {
                 image: image.as_str(),
                 plan: plan.as_str(),
+            })
+        }
+        [word, image, plan, dump]
+            if word.as_str() == "record"
+                && is_name(image.as_str())
+                && is_name(plan.as_str())
+                && is_name(dump.as_str()) => {
+            Some(Form::Record {
+                image: image.as_str(),
+                plan: plan.as_str(),
+                dump: dump.as_str(),
             })
         }
         _ => None,

@@ -16,7 +16,7 @@ const LENGTH: usize = 172;
 #[test]
 fn words_of_no_form_are_refused(rt: HostRuntime) -> Result<(), Fail> {
     let alloc = rt.alloc();
-    let cases: [&[&str]; 8] = [
+    let cases: [&[&str]; 12] = [
         &[],
         &["trace"],
         &["trace", "a"],
@@ -24,6 +24,10 @@ fn words_of_no_form_are_refused(rt: HostRuntime) -> Result<(), Fail> {
         &["trace", "-", "b"],
         &["trace", "a", "--"],
         &["trace", "", "b"],
+        &["record", "a", "b"],
+        &["record", "a", "b", "c", "d"],
+        &["record", "a", "b", "-"],
+        &["record", "a", "b", ""],
         &["--help"],
     ];
     for case in cases {
@@ -133,6 +137,41 @@ fn a_call_that_fails_is_told_and_leaves_a_beginning(rt: HostRuntime) -> Result<(
         assert_eq!(rt; trace(alloc, &mut shelf, &mut sink)?, wanted);
         assert_eq!(rt; sink.bytes().len(), length);
     }
+    Ok(())
+}
+
+#[test]
+fn a_put_that_fails_is_told_and_leaves_the_other_names(rt: HostRuntime) -> Result<(), Fail> {
+    let alloc = rt.alloc();
+    let cases: [(&[u64], usize, Status); 5] = [
+        (&[1], 508, Status::ReadFault),
+        (&[2], 508, Status::ReadFault),
+        (&[3], 508, Status::WriteFault),
+        (&[], 507, Status::WriteFault),
+        (&[4], 508, Status::Ok),
+    ];
+    for (calls, room, wanted) in cases {
+        let mut shelf = shelf(alloc, IMAGE, PLAN, calls)?;
+        shelf.room("d", room)?;
+        let mut sink = MemSink::new(alloc, 64, &[])?;
+        let words = words(alloc, &["record", "i", "p", "d"])?;
+        assert_eq!(rt; tm(alloc, &words, &mut shelf, &mut sink), wanted);
+        assert_eq!(rt; shelf.content("i"), Some(IMAGE));
+        assert_eq!(rt; shelf.content("p"), Some(PLAN));
+        assert!(rt; sink.bytes().is_empty());
+    }
+    Ok(())
+}
+
+#[test]
+fn a_dump_may_take_the_place_of_a_file_that_was_read(rt: HostRuntime) -> Result<(), Fail> {
+    let alloc = rt.alloc();
+    let mut shelf = shelf(alloc, IMAGE, PLAN, &[])?;
+    shelf.room("i", 508)?;
+    let mut sink = MemSink::new(alloc, 64, &[])?;
+    let words = words(alloc, &["record", "i", "p", "i"])?;
+    assert_eq!(rt; tm(alloc, &words, &mut shelf, &mut sink), Status::Ok);
+    assert_eq!(rt; shelf.content("i").map(|bytes| bytes.len()), Some(508));
     Ok(())
 }
 
