@@ -21,6 +21,11 @@ pub record WindowView : Type 0 where
   pub checks : List KeptChecks
   pub tail : Tail
 
+-- the window of these parts
+abbrev pub window_from : Shape → Kept Switch → Kept OutputEntry → List (Kept DataEntry) → List KeptChecks → Tail → WindowView
+window_from shape control outputs logs checks tail =
+    record { shape = shape; control = control; outputs = outputs; logs = logs; checks = checks; tail = tail }
+
 -- the number that stands for no task
 abbrev pub no_task : ℕ
 no_task = 255

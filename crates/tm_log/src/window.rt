@@ -4,7 +4,7 @@ ghost use Rattle.std.specs.Prelude.{◌≡◌, ◌≢◌, ℕ, ◌<◌, ◌^◌,
 ghost use Rattle.tm_marker.specs.Shape.{IsShape};
 ghost use Rattle.tm_ring.specs.Kept.{Holds};
 ghost use Rattle.tm_check.specs.Checkpoint.{Checkpoint, checkpoint, HoldsChecks};
-ghost use Rattle.tm_log.specs.Window.{empty_window, log_of, checks_of, with_control, with_output, with_entry, with_check, with_running, with_task, dump_bound, IsWindow};
+ghost use Rattle.tm_log.specs.Window.{window_from, empty_window, log_of, checks_of, with_control, with_output, with_entry, with_check, with_running, with_task, dump_bound, IsWindow};
 
 use crate::tasks::{
     bound_of_all, copied, copy_checks, copy_logs, copy_tail, empty_checks, empty_logs, new_tail,
@@ -52,6 +52,28 @@ impl Window {
             tail: new_tail(alloc, tasks)?,
             shape: copied(alloc, shape)?,
         })
+    }
+
+    /// The window of these parts.
+    pub fn from_parts(
+        shape: Shape,
+        control: Ring<Switch>,
+        outputs: Ring<OutputEntry>,
+        logs: Vec<Ring<DataEntry>>,
+        checks: Vec<Checks>,
+        tail: Tail,
+    ) -> Self
+        requires { IsWindow (window_from shape control outputs logs.items checks.items tail) }
+        ensures { result ≡ window_from shape control outputs logs.items checks.items tail }
+    {
+        Window {
+            shape,
+            control,
+            outputs,
+            logs,
+            checks,
+            tail,
+        }
     }
 
     /// Takes all that a window of the same shape holds.
