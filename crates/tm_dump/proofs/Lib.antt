@@ -2,3 +2,13 @@ pub mod Lengths
 pub mod Writing
 pub mod Bounds
 pub mod Most
+pub mod Fronts
+pub mod Lasts
+pub mod Making
+pub mod Taken
+pub mod Onlys
+pub mod Wholes
+pub mod Assembly
+pub mod Found
+pub mod FoundLists
+pub mod FoundTop

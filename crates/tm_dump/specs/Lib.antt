@@ -1,4 +1,9 @@
+pub mod Bytes
+pub mod Cursor
 pub mod Dump
 pub mod Fields
 pub mod Laws
+pub mod Made
+pub mod Reading
 pub mod Room
+pub mod Widths

@@ -16,7 +16,7 @@ use tm_marker::{DataEntry, Marker, Shape, Tail};
 use tm_ring::Ring;
 
 /// The magic number and the version.
-const MAGIC: [u8; 5] = [0x54, 0x4d, 0x44, 0x50, 1];
+pub(crate) const MAGIC: [u8; 5] = [0x54, 0x4d, 0x44, 0x50, 1];
 
 #[tactic(auto, using(crate::proofs::Lengths::lengths), unfolding(crate::specs::Dump::head_bytes))]
 fn put_head(shape: &Shape, into: &mut Vec<u8>)

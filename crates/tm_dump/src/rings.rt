@@ -12,7 +12,7 @@ use tm_marker::{DataEntry, OutputEntry, Switch};
 use tm_ring::Ring;
 
 /// The item at an index, where the oldest kept one has index 0.
-fn kept<T: Copy>(ring: &Ring<T>, index: u32) -> T
+pub(crate) fn kept<T: Copy>(ring: &Ring<T>, index: u32) -> T
     requires { index < length ring.now.items }
     ensures { slice_get ring.now.items index ≡ Some result }
 {

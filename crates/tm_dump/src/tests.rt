@@ -4,6 +4,8 @@
 ghost use Rattle.std.specs.Prelude.{◌≡◌, IfOk};
 ghost use Rattle.tm_marker.specs.Shape.{IsShape};
 
+mod reading;
+
 use super::write_dump;
 use std::alloc::Global;
 use std::process::Abort;

@@ -14,7 +14,7 @@ use tm_log::Window;
 
 /// The digest that closes a dump whose other bytes are these.
 #[tactic(auto, unfolding(crate::specs::Dump::closing_digest))]
-fn closing_digest(body: &[u8]) -> [u8; 32]
+pub(crate) fn closing_digest(body: &[u8]) -> [u8; 32]
     ensures digest { result ≡ closing_digest body.now }
     ensures long { length result ≡ 32 }
 {
