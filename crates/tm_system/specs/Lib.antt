@@ -4,6 +4,7 @@ pub mod Turns
 pub mod Marks
 pub mod Controls
 pub mod Telling
+pub mod Accepted
 pub mod Follows
 pub mod Machine
 pub mod Parts
