@@ -1,32 +1,12 @@
 -- From which points a window can be replayed, and what is missing where it can't.
-use Rattle.std.specs.Prelude.{ℕ, ◌+◌, ◌-◌, ◌==◌, ◌&&◌, if◌then◌else◌, nat_lt, zero, suc, List, length, drop, find, slice_get, unwrap_or, option_map, Option, Some, None}
+use Rattle.std.specs.Prelude.{ℕ, ◌+◌, ◌&&◌, if◌then◌else◌, nat_lt, zero, suc, length, Option, Some, None}
 use Rattle.std.specs.Option.{option_or}
-use Rattle.tm_marker.specs.declared.marker.Marker.{Marker}
-use Rattle.tm_marker.specs.declared.entries.Switch.{Switch}
-use Rattle.tm_ring.specs.Kept.{Kept, first_of}
+use Rattle.tm_ring.specs.Kept.{first_of}
 use Rattle.tm_check.specs.Checkpoint.{Checkpoint, check_of}
-use Rattle.tm_log.specs.Window.{WindowView, zero_marker, log_of, checks_of}
+use Rattle.tm_log.specs.Window.{WindowView, log_of, checks_of}
+pub use Rattle.tm_log.specs.Points.{entries_from, resumed_in, tail_marker, marker_at_point}
 use Rattle.tm_points.specs.declared.finder.Lost.{Lost}
 use Rattle.tm_points.specs.declared.finder.Lost.TheVariants.{Unknown, Control, Check, Data}
-
--- the kept control entries from a ring number on
-abbrev pub entries_from : Kept Switch → ℕ → List Switch
-entries_from control number = drop (number - first_of control) control.items
-
--- the marker with which the first of the entries that switches to a task resumes it
-abbrev pub resumed_in : List Switch → ℕ → Option Marker
-resumed_in entries task = option_map (λ entry. entry.to_at) (find (λ entry. entry.to == task) entries)
-
--- a task's marker at the last moment
-abbrev pub tail_marker : WindowView → ℕ → Marker
-tail_marker w task = unwrap_or (slice_get w.tail.at task) zero_marker
-
--- a task's marker at a point. Point 0 is boot, and point P is right after the entry of ring number
--- P - 1. A task that doesn't run stands still, so its marker is the one with which it is next resumed,
--- by that entry or a later one, or its last one where none resumes it.
-abbrev pub marker_at_point : WindowView → ℕ → ℕ → Marker
-marker_at_point w point task =
-    unwrap_or (resumed_in (entries_from w.control (point - 1)) task) (tail_marker w task)
 
 -- the least point whose own entry is kept, where some were dropped
 abbrev pub least_point : WindowView → ℕ

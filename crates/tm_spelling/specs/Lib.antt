@@ -1,3 +1,4 @@
 pub mod Lines
 pub mod Story
+pub mod Tracks
 pub mod Examples

@@ -27,6 +27,7 @@ use Rattle.tm_image.specs.Image.{ImageView, IsImage, entry_of, text_of}
 use Rattle.tm_system.specs.History.{Moment, History}
 use Rattle.tm_system.specs.Run.{now, running_at, body_at, no_body, arrival, left_by, moment_by, arrives, turned, turns, sliced, played}
 use Rattle.tm_system.specs.Follows.{CanRunNext, ended_by, Follows, IsRun, Boots, GoesOn}
+use Rattle.tm_system.proofs.Outputs.{output_tells}
 use Rattle.tm_system.specs.Laws.{IsSoundAt, ScriptsAreRuns, ScriptsAreSound}
 
 -- a run whose last moment is sound
@@ -224,6 +225,7 @@ call_good image h service i s somebody e =
           turn = record { runs = refl; there = there };
           calls = e ∙ ap Calls (sym (call_names_service k t service (args_of b)));
           bodies = refl;
+          makes = output_tells k t service b;
           next = can_run_next k t service (args_of b) refl s.kernel runs a.need refl;
           ended = (rescheduling_same_rest a.kernel).ended ∙ ended_by_call k t service (args_of b) refl s.kernel runs goes a.need refl;
         };

@@ -8,7 +8,10 @@ pub mod Playing
 pub mod Advancing
 pub mod Quieting
 pub mod Booting
+pub mod Outputs
 pub mod Following
+pub mod Walking
+pub mod Meeting
 pub mod Lengths
 pub mod Texts
 pub mod Below

@@ -1,11 +1,13 @@
 -- What a run is, apart from the script that played it: boot, and moments that each follow.
-use Rattle.std.specs.Prelude.{◌≡◌, ◌≢◌, ℕ, ◌<◌, ◌⊎◌, Bool, [], ◌∷◌, length, slice_set, Option, Some, None}
+use Rattle.std.specs.Prelude.{◌≡◌, ◌≢◌, ℕ, ◌<◌, ◌⊎◌, Bool, [], ◌∷◌, length, slice_set, Option, Some, None, option_to_list}
 use Rattle.tm_marker.specs.declared.entries.DataEntry.{DataEntry}
+use Rattle.tm_marker.specs.declared.entries.OutputEntry.{OutputEntry}
 use Rattle.tm_marker.specs.declared.entries.Kind.{Kind}
 use Rattle.tm_marker.specs.declared.entries.Kind.TheVariants.{Preempted, Waits, Ends, Fault, Shutdown, Idle}
 use Rattle.tm_task.specs.declared.outcome.Cause.{Cause}
 use Rattle.tm_task.specs.Exec.{Faults, Calls, Goes, exec}
 use Rattle.tm_task.specs.Standing.{reply}
+use Rattle.tm_task.specs.Place.{output_of}
 use Rattle.tm_kernel.specs.State.{nobody}
 use Rattle.tm_image.specs.Image.{ImageView, entry_of, text_of}
 use Rattle.tm_system.specs.History.{Deed, Arrives, Steps, Answers, Faulted, Moment, History}
@@ -52,11 +54,12 @@ ended_by (Some Fault) = 1
 ended_by (Some Shutdown) = 2
 ended_by (Some Idle) = 0
 
--- a call is answered in its task alone
-pub record IsCall (image : ImageView) (h : History) (m : Moment) (task : ℕ) (entry : DataEntry) : Type 0 where
+-- a call is answered in its task alone; its entry tells which output it makes
+pub record IsCall (image : ImageView) (h : History) (m : Moment) (task : ℕ) (entry : DataEntry) (output : Option OutputEntry) : Type 0 where
   pub turn : IsTurnOf image h task
   pub calls : exec (text_of image task) (body_at image h task) ≡ Calls entry.service
   pub bodies : m.after.bodies ≡ slice_set (now image h).bodies task (reply (entry_of image task) (body_at image h task) entry)
+  pub makes : option_to_list output ≡ output_of task (body_at image h task) entry
   pub next : CanRunNext m.leaves task m.after.kernel.running
   pub ended : m.after.kernel.ended ≡ ended_by m.leaves
 
@@ -73,7 +76,7 @@ pub record IsFault (image : ImageView) (h : History) (m : Moment) (task : ℕ) (
 abbrev pub DidDeed : ImageView → History → Moment → Deed → Type 0
 DidDeed image h m (Arrives mask ports) = IsArrival image h m
 DidDeed image h m (Steps task back) = IsStep image h m task back
-DidDeed image h m (Answers task entry output) = IsCall image h m task entry
+DidDeed image h m (Answers task entry output) = IsCall image h m task entry output
 DidDeed image h m (Faulted task cause) = IsFault image h m task cause
 
 -- a moment follows a history: the run had not ended, the moment did what its deed says, and nobody or

@@ -11,3 +11,10 @@ pub mod Parts
 pub mod Examples
 pub mod Laws
 pub mod Gaining
+pub mod WindowOf
+pub mod Alone
+pub mod Wanted
+pub mod Tracing
+pub mod Replaying
+pub mod ReplayExamples
+pub mod ReplayLaws

@@ -5,11 +5,13 @@
 //! running task. Each tells by [`Told`] what its moment adds to the lists that the run leaves.
 #![tactic(auto)]
 
+mod diverged;
 mod laws;
 mod machine;
 mod runs;
 
-pub use laws::{examples, lists_gain_what_is_told, turns_add_up};
+pub use diverged::{Diverged, Why};
+pub use laws::{examples, lists_gain_what_is_told, replay_examples, turns_add_up, walks_go_on};
 pub use machine::{Machine, Told};
 pub use runs::scripts_are_runs;
 
