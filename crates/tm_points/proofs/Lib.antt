@@ -1,4 +1,5 @@
 pub mod Scanning
+pub mod Back
 pub mod Least
 pub mod Replayable
 pub mod Markers

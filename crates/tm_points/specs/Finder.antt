@@ -19,11 +19,13 @@ lost_of_check task epoch first None = Some (Check task epoch)
 lost_of_check task epoch first (Some c) =
     if nat_lt c.data_number first then Some (Data task c.data_number first) else None
 
+-- what a task lacks to be replayed from the start of an epoch
+abbrev pub lost_of_epoch : WindowView → ℕ → ℕ → Option Lost
+lost_of_epoch w task epoch = lost_of_check task epoch (first_of (log_of w task)) (check_of (checks_of w task) epoch)
+
 -- what a task lacks to be replayed from a point
 abbrev pub lost_of_task : WindowView → ℕ → ℕ → Option Lost
-lost_of_task w point task =
-    let epoch = (marker_at_point w point task).epoch in
-    lost_of_check task epoch (first_of (log_of w task)) (check_of (checks_of w task) epoch)
+lost_of_task w point task = lost_of_epoch w task (marker_at_point w point task).epoch
 
 -- the answer of the least number, among so many, for which there is one
 abbrev pub least_answer : {X : Type 0} → (ℕ → Option X) → ℕ → Option X

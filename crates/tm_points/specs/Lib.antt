@@ -1,3 +1,4 @@
 pub mod Finder
+pub mod Epochs
 pub mod Laws
 pub mod Points

@@ -3,7 +3,7 @@
 ghost use Rattle.std.specs.Prelude.{◌≡◌, ◌<◌, length};
 ghost use Rattle.std.specs.Result.{result_err};
 ghost use Rattle.tm_log.specs.Window.{IsWindow};
-ghost use Rattle.tm_points.specs.Finder.{entries_from, resumed_in, marker_at_point, lost_of_task, lost_of};
+ghost use Rattle.tm_points.specs.Finder.{entries_from, resumed_in, marker_at_point, lost_of_epoch, lost_of_task, lost_of};
 
 use tm_log::{Ring, Window};
 use tm_marker::{Marker, Switch};
@@ -52,7 +52,14 @@ fn accepts_task(window: &Window, point: u64, task: u8) -> Result<(), Lost>
     requires task { task < length window.now.shape.words }
     ensures { result_err result ≡ lost_of_task window.now point task }
 {
-    let epoch = marker_at(window, point, task).epoch;
+    accepts_epoch(window, task, marker_at(window, point, task).epoch)
+}
+
+/// Whether a task can be replayed from the start of an epoch.
+pub fn accepts_epoch(window: &Window, task: u8, epoch: u64) -> Result<(), Lost>
+    requires { task < length window.now.shape.words }
+    ensures { result_err result ≡ lost_of_epoch window.now task epoch }
+{
     let Some(check) = window.checks(task).with_epoch(epoch) else {
         return Err(Lost::Check { task, epoch });
     };

@@ -6,6 +6,7 @@
 #![tactic(auto)]
 
 mod accepted;
+mod epochs;
 mod finder;
 mod laws;
 mod list;
