@@ -50,8 +50,13 @@ fn run(rt: &HostRuntime) -> Status {
     )
 }
 
-/// Prints the status line; where it can't be made or printed, nothing is.
+/// Prints the status line, which takes memory only where it has a number in it; where it can't be made or
+/// printed, nothing is.
 fn report(rt: &HostRuntime, status: Status) {
+    if let Some(line) = status.fixed_line() {
+        let _ = rt.stderr().write_all(line);
+        return;
+    }
     let mut line = Vec::new(rt.alloc());
     if status.line(&mut line).is_ok() {
         let _ = rt.stderr().write_all(&line);

@@ -1,10 +1,11 @@
 //! A shelf over files: the trusted edge, which tells no content.
 
-ghost use Rattle.std.specs.Prelude.{◌≡◌, ◌≤◌, length, OnOk, OnErr};
+ghost use Rattle.std.specs.Prelude.{◌≡◌, ◌≢◌, ◌≤◌, length, OnOk, OnErr};
 ghost use Rattle.tm_io.specs.Counts.{counted};
 
+use crate::whole_file::put_whole;
 use crate::{GetFault, PutFault, Shelf};
-use std::fs;
+use std::fs::{self, File};
 use std::io::{ErrorKind, Read};
 use std::marker::Model;
 use std::rt::Files;
@@ -59,7 +60,7 @@ impl<R: Files> FileShelf<R> {
     }
 }
 
-impl<R: Files> Shelf for FileShelf<R> {
+impl<R: Files<File = File> + Alloc> Shelf for FileShelf<R> {
     ghost use Rattle.std.specs.Prelude.{false, None, if◌then◌else◌, is_ok};
     ghost use Rattle.tm_io.specs.Faults.{Faults};
 
@@ -78,12 +79,12 @@ impl<R: Files> Shelf for FileShelf<R> {
     fn get(&mut self, name: &str, limit: u64, into: &mut Vec<u8>) -> Result<(), GetFault>
         ensures within { OnOk result (length into.new.items ≤ limit) }
         ensures into_stays { OnErr result (into.new.items ≡ into.old.items) }
-        // Each fault is counted, of whatever kind.
-        ensures counts { self.new ≡ record self.old { gets = if is_ok result then self.old.gets else counted self.old.gets } }
+        ensures stays { result ≢ Err GetFault.Failed → self.new ≡ self.old }
+        ensures failed { result ≡ Err GetFault.Failed → self.new ≡ record self.old { gets = counted self.old.gets } }
         ensures never_falls { self.old.gets ≤ self.new.gets }
     {
         let read = self.read(name, limit, into);
-        if read.is_err() {
+        if read == Err(GetFault::Failed) {
             self.gets = self.gets.saturating_add(1);
         }
         read
@@ -93,7 +94,7 @@ impl<R: Files> Shelf for FileShelf<R> {
         ensures counts { self.new ≡ record self.old { puts = if is_ok result then self.old.puts else counted self.old.puts } }
         ensures never_falls { self.old.puts ≤ self.new.puts }
     {
-        if fs::write(&self.rt, name, bytes).is_err() {
+        if put_whole(&self.rt, name, bytes).is_err() {
             self.puts = self.puts.saturating_add(1);
             return Err(PutFault::Failed);
         }
@@ -116,13 +117,16 @@ mod tests {
         let mut into = Vec::from_slice(rt.alloc(), b"before")?;
         assert_eq!(rt; shelf.get(&name, 9, &mut into), Err(GetFault::Failed));
         assert_eq!(rt; shelf.put(&name, b"a longer text"), Ok(()));
-        assert_eq!(rt; shelf.put(&name, b"xyz"), Ok(()));
-        assert_eq!(rt; shelf.get(&name, 2, &mut into), Err(GetFault::TooLong));
+        assert_eq!(rt; shelf.put(&name, b"wxyz"), Ok(()));
+        assert_eq!(rt; shelf.get(&name, 3, &mut into), Err(GetFault::TooLong));
         assert_eq!(rt; shelf.get(folder, 9, &mut into), Err(GetFault::Failed));
-        assert_eq!(rt; shelf.put(folder, b"xyz"), Err(PutFault::Failed));
+        assert_eq!(rt; shelf.put(folder, b"wxyz"), Err(PutFault::Failed));
         assert_eq!(rt; into.as_slice(), b"before".as_slice());
-        assert_eq!(rt; shelf.get(&name, 3, &mut into), Ok(()));
-        assert_eq!(rt; into.as_slice(), b"xyz".as_slice());
+        assert_eq!(rt; shelf.get(&name, 4, &mut into), Ok(()));
+        assert_eq!(rt; into.as_slice(), b"wxyz".as_slice());
+        assert_eq!(rt; shelf.put(&name, b""), Ok(()));
+        assert_eq!(rt; shelf.get(&name, 0, &mut into), Ok(()));
+        assert_eq!(rt; into.as_slice(), b"".as_slice());
         fs::remove_file(&rt, &name)
     }
 }

@@ -15,6 +15,9 @@ mod out_sink;
 mod refill;
 mod shelf;
 mod sink;
+#[cfg(test)]
+mod tests;
+mod whole_file;
 
 pub use file_shelf::FileShelf;
 pub use mem_shelf::MemShelf;

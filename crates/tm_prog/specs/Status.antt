@@ -1,5 +1,5 @@
 -- The numbers and the lines of the statuses.
-use Rattle.std.specs.Prelude.{ℕ, List, [], ◌∷◌, ◌++◌, codes, decimal}
+use Rattle.std.specs.Prelude.{ℕ, Bool, true, false, List, [], ◌∷◌, ◌++◌, codes, decimal}
 use Rattle.tm_image.specs.declared.fault.Fault.{Fault}
 use Rattle.tm_image.specs.declared.fault.Reason.{Reason}
 use Rattle.tm_image.specs.declared.fault.Reason.TheVariants as reason
@@ -42,3 +42,14 @@ line_of (status.Plan fault) = refusal_line (codes "plan") fault
 line_of (status.TooLong file) = codes "tm: too long " ++ decimal file ++ 10 ∷ []
 line_of status.WriteFault = codes "tm: write fault" ++ 10 ∷ []
 line_of status.Memory = codes "tm: memory" ++ 10 ∷ []
+
+-- the line has a number in it
+abbrev pub is_numbered : Status → Bool
+is_numbered (status.Image fault) = true
+is_numbered (status.Plan fault) = true
+is_numbered (status.TooLong file) = true
+is_numbered status.Ok = false
+is_numbered status.Words = false
+is_numbered status.ReadFault = false
+is_numbered status.WriteFault = false
+is_numbered status.Memory = false

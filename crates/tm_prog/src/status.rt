@@ -1,8 +1,8 @@
 //! How a call of the program ended.
 
-ghost use Rattle.std.specs.Prelude.{◌≡◌, ◌++◌, codes, OnOk, OnErr};
+ghost use Rattle.std.specs.Prelude.{◌≡◌, ◌++◌, codes, is_none, IfSome, OnOk, OnErr};
 ghost use Rattle.tm_prog.specs.declared.status.Status.{Status};
-ghost use Rattle.tm_prog.specs.Status.{code_of, line_of, reason_name, refusal_line};
+ghost use Rattle.tm_prog.specs.Status.{code_of, is_numbered, line_of, reason_name, refusal_line};
 
 use std::alloc::AllocError;
 use tm_image::{ImageFault, PlanFault, Reason};
@@ -45,20 +45,31 @@ impl Status {
         }
     }
 
+    /// The line for standard error, where it has no number in it: it takes no memory. Ok has none.
+    pub fn fixed_line(&self) -> Option<&'static [u8]>
+        ensures line { IfSome result (λ line. line.now ≡ line_of self.now) }
+        ensures numbered { is_none result ≡ is_numbered self.now }
+    {
+        match self {
+            Status::Ok => Some(b""),
+            Status::Words => Some(b"tm: words\n"),
+            Status::ReadFault => Some(b"tm: read fault\n"),
+            Status::WriteFault => Some(b"tm: write fault\n"),
+            Status::Memory => Some(b"tm: memory\n"),
+            Status::Image(_) | Status::Plan(_) | Status::TooLong(_) => None,
+        }
+    }
+
     /// Appends the line for standard error. Ok has none.
     pub fn line(&self, into: &mut Vec<u8>) -> Result<(), AllocError>
         ensures ok { OnOk result (into.new.items ≡ into.old.items ++ line_of self.now) }
         ensures err { OnErr result (into.new.items ≡ into.old.items) }
     {
         match self {
-            Status::Ok => Ok(()),
-            Status::Words => into.extend_from_slice(b"tm: words\n"),
-            Status::ReadFault => into.extend_from_slice(b"tm: read fault\n"),
             Status::Image(fault) => refusal_line("image", fault, into),
             Status::Plan(fault) => refusal_line("plan", fault, into),
-            Status::WriteFault => into.extend_from_slice(b"tm: write fault\n"),
             Status::TooLong(file) => too_long_line(*file, into),
-            Status::Memory => into.extend_from_slice(b"tm: memory\n"),
+            _ => into.extend_from_slice(self.fixed_line().unwrap_or_default()),
         }
     }
 }
