@@ -75,10 +75,12 @@ def steps():
 
 def make_files(folder):
     """The files that the refusals of all commands need, in the folder: the example as good.tmi and good.tmplan, a file
-    that is no text, an image of the greatest length and one that is a byte longer, and a folder."""
+    that is no text, an image and a plan of the greatest length and of a byte more, and a folder."""
     for name in ("handover.tmi", "handover.tmplan"):
         write(os.path.join(folder, name.replace("handover", "good")), read(os.path.join(examples, name)))
     write(os.path.join(folder, "not.tmi"), b"\x7fELF\x00\xff\n")
     write(os.path.join(folder, "full.tmi"), b"\n" * (8 << 20))
     write(os.path.join(folder, "long.tmi"), b"\n" * ((8 << 20) + 1))
+    write(os.path.join(folder, "full.tmplan"), b"#" * (128 << 20))
+    write(os.path.join(folder, "long.tmplan"), b"#" * ((128 << 20) + 1))
     os.mkdir(os.path.join(folder, "a_folder"))

@@ -38,6 +38,8 @@ def check_refusals(folder):
         ("the image's refusal before the plan's", ["trace", "not.tmi", "missing.tmplan"], 4, "tm: image line 1 form"),
         ("an image past 8 MiB", ["trace", "long.tmi", plan], 10, "tm: too long 1"),
         ("an image of 8 MiB without a task", ["trace", "full.tmi", plan], 4, "tm: image line 8388609 missing"),
+        ("a plan past 128 MiB", ["trace", image, "long.tmplan"], 10, "tm: too long 2"),
+        ("a plan of 128 MiB that is one note", ["trace", image, "full.tmplan"], 5, "tm: plan line 2 missing"),
     ]
     for what, words, status, err in refused:
         check(what, words, status, b"", err, folder)

@@ -1,11 +1,12 @@
 //! Small whole files, and what the definitions make of them: theorems that guard the definitions.
 
-ghost use Rattle.std.specs.Prelude.{◌≡◌, [], ◌∷◌, ◌++◌, true, false, codes, replicate};
+ghost use Rattle.std.specs.Prelude.{◌≡◌, [], ◌∷◌, ◌++◌, Some, true, false, codes, replicate, is_ok, IsOkAnd};
 ghost use Rattle.tm_kernel.specs.declared.spec.Action.TheVariants.{Nothing, Tick, Activate, Event};
 ghost use Rattle.tm_image.specs.declared.fault.Reason.{Reason};
+ghost use Rattle.tm_image.specs.Load.{more_text};
 ghost use Rattle.tm_image.specs.Image.{image_digest, image_of};
 ghost use Rattle.tm_image.specs.Plan.{plan_of};
-ghost use Rattle.tm_image.specs.Examples.{one_task};
+ghost use Rattle.tm_image.specs.Examples.{one_task, with_text, sixteen_tasks, sixteen_resources, sixteen_alarms, sixteen_boxes, greatest_rings};
 
 /// What some plans say.
 #[tactic(auto, unfolding(crate::specs::Plan::plan_of, crate::specs::Numbers::number_in))]
@@ -19,8 +20,6 @@ pub fn plan_examples()
     ensures other_header { plan_of (codes "\ntmplan 01\n") ≡ Err (record { line = 2; reason = Reason.Form }) }
     ensures header_alone { plan_of (codes "tmplan 1\ntmplan 1\n") ≡ Err (record { line = 2; reason = Reason.Form }) }
     ensures three_ports { plan_of (codes "tmplan 1\nslice 5 0 1 2 3\n") ≡ Err (record { line = 2; reason = Reason.Form }) }
-    ensures too_long { plan_of (codes "tmplan 1\nslice 1048577 0\n") ≡ Err (record { line = 2; reason = Reason.Range }) }
-    ensures mask_of_17 { plan_of (codes "tmplan 1\nslice 5 65536\n") ≡ Err (record { line = 2; reason = Reason.Range }) }
     ensures upper_prefix { plan_of (codes "tmplan 1\nslice 5 0X2\n") ≡ Err (record { line = 2; reason = Reason.Number }) }
     ensures eleven_digits { plan_of (codes "tmplan 1\nslice 00000000005 0\n") ≡ Err (record { line = 2; reason = Reason.Number }) }
     ensures two_to_32 { plan_of (codes "tmplan 1\nslice 4294967296 0\n") ≡ Err (record { line = 2; reason = Reason.Number }) }
@@ -64,11 +63,43 @@ pub fn image_examples()
     ensures user_twice { image_of (one_task ++ codes "resource 0 0 0\n") ≡ Err (record { line = 4; reason = Reason.Repeated }) }
     ensures no_such_user { image_of (one_task ++ codes "resource 0 0 0 1\n") ≡ Err (record { line = 4; reason = Reason.Range }) }
     ensures alarm_that_ticks { image_of (one_task ++ codes "alarm 0 tick\n") ≡ Err (record { line = 4; reason = Reason.Form }) }
-    ensures large_box { image_of (one_task ++ codes "box 0 65\n") ≡ Err (record { line = 4; reason = Reason.Range }) }
-    ensures line_sixteen { image_of (one_task ++ codes "line 16 tick\n") ≡ Err (record { line = 4; reason = Reason.Range }) }
     ensures line_twice { image_of (one_task ++ codes "line 3 tick\nline 3 activate 0\n") ≡ Err (record { line = 5; reason = Reason.Repeated }) }
     ensures line_without_action { image_of (one_task ++ codes "line 3\n") ≡ Err (record { line = 4; reason = Reason.Form }) }
-    ensures many_checks { image_of (one_task ++ codes "ring checks 65\n") ≡ Err (record { line = 4; reason = Reason.Range }) }
     ensures ring_twice { image_of (one_task ++ codes "ring data 1\nring data 2\n") ≡ Err (record { line = 5; reason = Reason.Repeated }) }
     ensures no_such_ring { image_of (one_task ++ codes "ring log 1\n") ≡ Err (record { line = 4; reason = Reason.Form }) }
+{}
+
+/// The last line of a plan that is within its limits, and the first that is not.
+#[tactic(auto, unfolding(crate::specs::Plan::plan_of, crate::specs::Numbers::number_in))]
+pub fn plan_limits()
+    ensures slice { plan_of (codes "tmplan 1\nslice 1048576 0xffff\n") ≡ Ok (record { length = 1048576; mask = 65535; ports = 0 ∷ 0 ∷ 0 ∷ 0 ∷ [] } ∷ []) }
+    ensures longer { plan_of (codes "tmplan 1\nslice 1048577 0\n") ≡ Err (record { line = 2; reason = Reason.Range }) }
+    ensures mask_of_17 { plan_of (codes "tmplan 1\nslice 5 0x10000\n") ≡ Err (record { line = 2; reason = Reason.Range }) }
+{}
+
+/// The last line of an image that is within its limits, and the first that is not.
+#[tactic(auto, unfolding(crate::specs::Image::image_of, crate::specs::Image::draft_of, crate::specs::Numbers::number_in, crate::specs::Numbers::word_in))]
+pub fn image_limits()
+    ensures tasks { image_of sixteen_tasks ≡ Err (record { line = 18; reason = Reason.Missing }) }
+    ensures more_tasks { image_of (sixteen_tasks ++ codes "task 16 basic 17 auto 0 1\n") ≡ Err (record { line = 18; reason = Reason.Limit }) }
+    ensures resources { is_ok (image_of (one_task ++ sixteen_resources)) ≡ true }
+    ensures more_resources { image_of (one_task ++ sixteen_resources ++ codes "resource 16 0\n") ≡ Err (record { line = 20; reason = Reason.Limit }) }
+    ensures alarms { is_ok (image_of (one_task ++ sixteen_alarms)) ≡ true }
+    ensures more_alarms { image_of (one_task ++ sixteen_alarms ++ codes "alarm 16 activate 0\n") ≡ Err (record { line = 20; reason = Reason.Limit }) }
+    ensures boxes { is_ok (image_of (one_task ++ sixteen_boxes)) ≡ true }
+    ensures more_boxes { image_of (one_task ++ sixteen_boxes ++ codes "box 16 1\n") ≡ Err (record { line = 20; reason = Reason.Limit }) }
+    ensures larger_box { image_of (one_task ++ codes "box 0 65\n") ≡ Err (record { line = 4; reason = Reason.Range }) }
+    ensures priority { is_ok (image_of (codes "tmi 1\ntask 0 basic 255 auto 0 1\ntext 0 0000006f\n")) ≡ true }
+    ensures greater_priority { image_of (codes "tmi 1\ntask 0 basic 256 auto 0 1\n") ≡ Err (record { line = 2; reason = Reason.Range }) }
+    ensures words { is_ok (image_of (codes "tmi 1\ntask 0 basic 1 auto 0 16384\ntext 0 0000006f\n")) ≡ true }
+    ensures more_words { image_of (codes "tmi 1\ntask 0 basic 1 auto 0 16385\n") ≡ Err (record { line = 2; reason = Reason.Range }) }
+    ensures text { is_ok (more_text (0 ∷ []) (with_text 16383)) ≡ true }
+    ensures more_text { more_text (0 ∷ []) (with_text 16384) ≡ Err Reason.Limit }
+    ensures line { is_ok (image_of (one_task ++ codes "line 15 tick\n")) ≡ true }
+    ensures greater_line { image_of (one_task ++ codes "line 16 tick\n") ≡ Err (record { line = 4; reason = Reason.Range }) }
+    ensures rings { IsOkAnd (image_of (one_task ++ greatest_rings)) (λ image. image.caps ≡ record { control = 65536; logs = 65536; outputs = 65536; checks = 64 }) }
+    ensures greater_control { image_of (one_task ++ codes "ring control 65537\n") ≡ Err (record { line = 4; reason = Reason.Range }) }
+    ensures greater_data { image_of (one_task ++ codes "ring data 65537\n") ≡ Err (record { line = 4; reason = Reason.Range }) }
+    ensures greater_outputs { image_of (one_task ++ codes "ring outputs 65537\n") ≡ Err (record { line = 4; reason = Reason.Range }) }
+    ensures greater_checks { image_of (one_task ++ codes "ring checks 65\n") ≡ Err (record { line = 4; reason = Reason.Range }) }
 {}

@@ -30,7 +30,7 @@ mod plan;
 mod rings;
 mod said;
 
-pub use examples::{image_examples, plan_examples};
+pub use examples::{image_examples, image_limits, plan_examples, plan_limits};
 pub use fault::{Fault, ImageFault, PlanFault, Reason};
 pub use image::{Image, read_image};
 pub use laws::{faults_are_never_memory, image_faults_are_first, plan_faults_are_first};

@@ -9,6 +9,7 @@
 mod body;
 mod entries;
 mod items;
+pub mod laws;
 mod marker;
 mod shape;
 mod tail;

@@ -27,7 +27,7 @@ mod words;
 mod write;
 
 use answer::bytes_for;
-pub use limits::{IMAGE_LIMIT, PLAN_LIMIT};
+pub use limits::{IMAGE_LIMIT, PLAN_LIMIT, limits_are};
 pub use status::Status;
 use std::alloc::Global;
 use tm_io::{Shelf, Sink};

@@ -1,7 +1,15 @@
 //! How long the files may be.
 
+ghost use Rattle.std.specs.Prelude.{◌≡◌};
+
 /// The most bytes of an image's file.
 pub const IMAGE_LIMIT: u64 = 8 * 1024 * 1024;
 
 /// The most bytes of a plan's file.
 pub const PLAN_LIMIT: u64 = 128 * 1024 * 1024;
+
+/// What the limits are, as figures: the clauses are the law, and the function does nothing.
+pub fn limits_are()
+    ensures image { IMAGE_LIMIT ≡ 8388608 }
+    ensures plan { PLAN_LIMIT ≡ 134217728 }
+{}

@@ -4,6 +4,7 @@
 //! from 0, and an item keeps its number when older ones are dropped.
 #![tactic(auto)]
 
+pub mod laws;
 mod ring;
 
 pub use ring::Ring;

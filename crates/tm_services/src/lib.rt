@@ -7,6 +7,7 @@
 mod alarms;
 mod ceilings;
 mod held;
+pub mod laws;
 mod status;
 mod waiting;
 
