@@ -12,12 +12,12 @@ below_same zero f g same = refl
 below_same (suc n) f g same =
     ap (λ xs. xs ++ f n ∷ []) (below_same n f g (λ t lt. same t (omega arith))) ∙ ap (λ x. below n g ++ x ∷ []) (same n (omega arith))
 
-get_front : {A : Type 0} (xs : List A) (y : A) (t : ℕ) → t < length xs → slice_get (xs ++ y ∷ []) t ≡ slice_get xs t
+pub get_front : {A : Type 0} (xs : List A) (y : A) (t : ℕ) → t < length xs → slice_get (xs ++ y ∷ []) t ≡ slice_get xs t
 get_front [] y t lt = absurd (omega arith)
 get_front (x ∷ xs) y zero lt = refl
 get_front (x ∷ xs) y (suc t) lt = get_front xs y t (omega arith)
 
-get_last : {A : Type 0} (xs : List A) (y : A) → slice_get (xs ++ y ∷ []) (length xs) ≡ Some y
+pub get_last : {A : Type 0} (xs : List A) (y : A) → slice_get (xs ++ y ∷ []) (length xs) ≡ Some y
 get_last [] y = refl
 get_last (x ∷ xs) y = get_last xs y
 

@@ -1,0 +1,14 @@
+pub mod Still
+pub mod Upto
+pub mod Points
+pub mod Reading
+pub mod Accepting
+pub mod Refusing
+pub mod Blocks
+pub mod Tracks
+pub mod Outputs
+pub mod Agreeing
+pub mod Stories
+pub mod Resting
+pub mod Fitting
+pub mod Faithful
