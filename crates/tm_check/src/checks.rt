@@ -7,7 +7,7 @@ ghost use Rattle.tm_check.specs.Checkpoint.{Checkpoint, checkpoint, kept_checks,
 ghost use Rattle.tm_check.specs.Ref.{ref_of};
 ghost use Rattle.tm_check.specs.Slots.{HaveOneSize};
 
-use crate::slot::{Slot, copy_body};
+use crate::slot::Slot;
 use circular_buffer::HeapCircularBuffer;
 use std::alloc::{AllocError, Global};
 use std::marker::Model;
@@ -22,9 +22,9 @@ pub struct CheckRef {
     pub control_no: u64,
 }
 
-/// The last checkpoints of one task, up to a capacity of 1 to 64, and how many there were in all, at
-/// most 2^53. The checkpoint of epoch e is the task's checkpoint number e, from 0 on. All bodies have
-/// the same number of data words.
+/// The last checkpoints of one task, up to a capacity of 1 to [`tm_marker::MOST_CHECKPOINTS`], and how
+/// many there were in all, at most 2^53. The checkpoint of epoch e is the task's checkpoint number e,
+/// from 0 on. All bodies have the same number of data words.
 #[derive(Drop)]
 pub struct Checks {
     slots: HeapCircularBuffer<Slot>,
@@ -147,7 +147,7 @@ impl Checks {
         ensures { option_map (λ c. c.body) (check_of self.now at.now.epoch) ≡ Some into.new }
     {
         let slot = self.slot_at(at.epoch);
-        copy_body(&slot.body, into);
+        into.copy_from(&slot.body);
     }
 
     /// One place of the body of a checkpoint that is kept here: 0 is the pc, 1 to 31 are the

@@ -41,18 +41,8 @@ impl Slot {
         requires { length body.now.words ≡ length self.old.body.words }
         ensures { self.new ≡ checkpoint body.now data_no control_no }
     {
-        copy_body(body, &mut self.body);
+        self.body.copy_from(body);
         self.data_no = data_no;
         self.control_no = control_no;
     }
-}
-
-/// Makes a body equal to another of the same size.
-pub(crate) fn copy_body(from: &Body, into: &mut Body)
-    requires { length from.now.words ≡ length into.old.words }
-    ensures { into.new ≡ from.now }
-{
-    into.pc = from.pc;
-    into.regs = from.regs;
-    into.words.copy_from_slice(from.words.as_slice());
 }

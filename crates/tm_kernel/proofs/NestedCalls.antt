@@ -2,6 +2,8 @@
 use Rattle.std.proofs.Common.{◌≡◌, ◌≢◌, ℕ, ◌-◌, ◌<◌, ◌≤◌, Bool, true, false, not, cond, eqb, ltb, List, [], ◌∷◌, ◌++◌, length, take, drop, replicate, refl, sym, subst, ◌∙◌, arith, zero, suc, Some, None, Option, get_or, set, slice_get, slice_index, bit_and, ◌==◌, inl, inr}
 use Rattle.std.proofs.lemmas.Bool.{cases_eq, eqb-true, ltb-true, cond_both, both_ways}
 use Rattle.tm_marker.specs.declared.entries.Kind.TheVariants.{Ends, Waits}
+use Rattle.tm_marker.specs.declared.service.Service.{Service}
+use Rattle.tm_marker.specs.declared.service.Service.TheVariants.{TerminateTask, ChainTask, ClearEvent, GetEvent, WaitEvent, GetAlarm, Send, ReadInput, WriteOutput}
 use Rattle.tm_services.specs.declared.status.TheConstants.{E_OK, E_OS_ACCESS, E_OS_ID, E_OS_NOFUNC, E_OS_RESOURCE, E_OS_VALUE}
 use Rattle.tm_services.specs.Alarms.{left_status, left_ticks}
 use Rattle.tm_services.specs.Ceilings.{current, holds, held_by, got, get_status, released, release_status}
@@ -12,6 +14,7 @@ use Rattle.tm_kernel.specs.Service.{Answered, answer, checked, goes_on, leaves, 
 use Rattle.tm_kernel.specs.Mailboxes.{Message, send_status}
 use Rattle.tm_kernel.specs.Laws.{CanRun}
 use Rattle.tm_kernel.specs.Nesting.{IsNested, BootIsNested, CallKeepsNested}
+use Rattle.tm_kernel.proofs.Answering.{answer_where}
 use Rattle.tm_kernel.proofs.NestedPriorities.{with_held, current_of_other, holds_of_other, current_of_shorter, holds_of_shorter}
 use Rattle.tm_kernel.proofs.NestedLeaders.{IsLeader, running_leads, leader_above}
 use Rattle.tm_kernel.proofs.NestedStates.{CanRunIn, KeepsHolders, keeps_nested, keeps_then, beside_can_run, activated_keeps_holders, events_set_keeps_holders, stopped_keeps_holders}
@@ -118,7 +121,7 @@ same_leaves k a nested c s = record {
 }
 
 -- a call that does what is given only where its status is E_OK
-checked_leaves : (k : KernelState) (service status : ℕ) (done : Answered) → IsNested k → (status ≡ E_OK → LeavesNested done) →
+checked_leaves : (k : KernelState) (service : Service) (status : ℕ) (done : Answered) → IsNested k → (status ≡ E_OK → LeavesNested done) →
     LeavesNested (checked k service status done)
 checked_leaves k service status done nested then_nested =
     cond_both (eqb status E_OK) done (goes_on k service status) LeavesNested
@@ -133,7 +136,7 @@ free_caller false false first second rest f s e = refl
 
 terminate_leaves : (k : KernelState) (caller : ℕ) → IsNested k → LeavesNested (terminate_task k caller)
 terminate_leaves k caller nested =
-    checked_leaves k 2 (holding_status k caller) (leaves (suspended k caller) 2 Ends) nested
+    checked_leaves k TerminateTask (holding_status k caller) (leaves (suspended k caller) TerminateTask Ends) nested
     (λ ok. record {
       nested = keeps_nested k (suspended k caller) (put_keeps_holders k caller Suspended k.awaited
           (free_caller false (holds k.ceilings caller) 1 E_OS_RESOURCE E_OK (omega arith) (omega arith) ok)) nested;
@@ -141,7 +144,7 @@ terminate_leaves k caller nested =
 
 chain_leaves : (k : KernelState) (caller task : ℕ) → IsNested k → LeavesNested (chain_task k caller task)
 chain_leaves k caller task nested =
-    checked_leaves k 3 (chaining k caller task) (leaves (activated (suspended k caller) task) 3 Ends) nested
+    checked_leaves k ChainTask (chaining k caller task) (leaves (activated (suspended k caller) task) ChainTask Ends) nested
     (λ ok. (
     let free : holds k.ceilings caller ≡ false =
     free_caller (eqb (activation (slice_get k.states task)) E_OS_ID) (holds k.ceilings caller) E_OS_ID E_OS_RESOURCE
@@ -155,12 +158,12 @@ chain_leaves k caller task nested =
 
 wait_leaves : (k : KernelState) (caller mask : ℕ) → IsNested k → LeavesNested (wait_event k caller mask)
 wait_leaves k caller mask nested =
-    checked_leaves k 11 (wait_status k caller mask) _ nested
+    checked_leaves k WaitEvent (wait_status k caller mask) _ nested
     (λ ok. (
     let free : holds k.ceilings caller ≡ false =
     free_caller (not (is_extended k caller)) (holds k.ceilings caller) E_OS_ACCESS E_OS_RESOURCE
     (cond (eqb mask 0) E_OS_VALUE E_OK) (omega arith) (omega arith) ok in
-    cond_both (eqb (bit_and (events_of k caller) mask) 0) (leaves (waiting k caller mask) 11 Waits) (goes_on k 11 E_OK) LeavesNested
+    cond_both (eqb (bit_and (events_of k caller) mask) 0) (leaves (waiting k caller mask) WaitEvent Waits) (goes_on k WaitEvent E_OK) LeavesNested
     (λ _. record { nested = keeps_nested k (waiting k caller mask) (put_keeps_holders k caller Waiting (set k.awaited caller mask) free) nested })
     (λ _. record { nested = nested })))
 
@@ -181,11 +184,11 @@ chosen false x y p q = q
 -- the services that change neither what tasks hold nor their states
 clear_leaves : (k : KernelState) (caller mask : ℕ) → IsNested k → LeavesNested (clear_event k caller mask)
 clear_leaves k caller mask nested =
-    checked_leaves k 9 (own_event_status k caller) (goes_on (without_events k caller mask) 9 E_OK) nested (λ _. same_leaves k _ nested refl refl)
+    checked_leaves k ClearEvent (own_event_status k caller) (goes_on (without_events k caller mask) ClearEvent E_OK) nested (λ _. same_leaves k _ nested refl refl)
 
 send_leaves : (k : KernelState) (box : ℕ) (message : Message) → IsNested k → LeavesNested (send k box message)
 send_leaves k box message nested =
-    checked_leaves k 16 (send_status k.spec.boxes box (slice_get k.boxes box)) (goes_on (sent k box message) 16 E_OK) nested
+    checked_leaves k Send (send_status k.spec.boxes box (slice_get k.boxes box)) (goes_on (sent k box message) Send E_OK) nested
     (λ _. same_leaves k _ nested refl refl)
 
 call_leaves : (k : KernelState) (task service : ℕ) (args : List ℕ) → IsNested k → IsLeader k task → LeavesNested (answer k task service args)
@@ -193,28 +196,29 @@ call_leaves k task service args nested leads =
     let a : ℕ = slice_index args 0 in
     let b : ℕ = slice_index args 1 in
     let c : ℕ = slice_index args 2 in
-    let same : LeavesNested (goes_on k service E_OS_NOFUNC) = record { nested = nested } in
-    chosen (service == 1) (activate_task k a) _ (record { nested = keeps_nested k (activated k a) (activated_keeps_holders k a) nested })
-    (chosen (service == 2) (terminate_task k task) _ (terminate_leaves k task nested)
-    (chosen (service == 3) (chain_task k task a) _ (chain_leaves k task a nested)
-    (chosen (service == 4) (get_task_id k task) _ (record { nested = nested })
-    (chosen (service == 5) (get_task_state k (slice_get k.states a)) _ (task_state_leaves k (slice_get k.states a) nested)
-    (chosen (service == 6) (get_resource k task a) _ (record { nested = get_keeps_nested k task a nested leads })
-    (chosen (service == 7) (release_resource k task a) _ (record { nested = release_keeps_nested k task a nested })
-    (chosen (service == 8) (set_event k a b) _ (record { nested = keeps_nested k (events_set k a b) (events_set_keeps_holders k a b) nested })
-    (chosen (service == 9) (clear_event k task a) _ (clear_leaves k task a nested)
-    (chosen (service == 10) (get_event k a) _ (checked_leaves k 10 (event_status k a) (tells k 10 (events_of k a)) nested (λ _. record { nested = nested }))
-    (chosen (service == 11) (wait_event k task a) _ (wait_leaves k task a nested)
-    (chosen (service == 12) (get_alarm k a) _ (checked_leaves k 12 (left_status k.alarms a) (tells k 12 (left_ticks k.alarms a)) nested (λ _. record { nested = nested }))
-    (chosen (service == 13) (set_rel_alarm k a b c) _ (same_leaves k (set_rel_alarm k a b c) nested refl refl)
-    (chosen (service == 14) (set_abs_alarm k a b c) _ (same_leaves k (set_abs_alarm k a b c) nested refl refl)
-    (chosen (service == 15) (cancel_alarm k a) _ (same_leaves k (cancel_alarm k a) nested refl refl)
-    (chosen (service == 16) (send k a (take 4 (drop 1 args))) _ (send_leaves k a (take 4 (drop 1 args)) nested)
-    (chosen (service == 17) (receive k a (slice_get k.boxes a)) _ (receive_leaves k a (slice_get k.boxes a) nested)
-    (chosen (service == 18) (read_input k a) _ (checked_leaves k 18 (port_status a) (tells k 18 (slice_index k.ports a)) nested (λ _. record { nested = nested }))
-    (chosen (service == 19) (write_output k task a b) _ (checked_leaves k 19 (port_status a) (writes k 19 (record { task = task; port = a; value = b })) nested (λ _. record { nested = nested }))
-    (chosen (service == 20) (shutdown_os k) _ (record { nested = keeps_nested k (stopped k false) (stopped_keeps_holders k false) nested })
-    same)))))))))))))))))))
+    answer_where LeavesNested k task service args (record {
+      of_activate_task = record { nested = keeps_nested k (activated k a) (activated_keeps_holders k a) nested };
+      of_terminate_task = terminate_leaves k task nested;
+      of_chain_task = chain_leaves k task a nested;
+      of_get_task_id = record { nested = nested };
+      of_get_task_state = task_state_leaves k (slice_get k.states a) nested;
+      of_get_resource = record { nested = get_keeps_nested k task a nested leads };
+      of_release_resource = record { nested = release_keeps_nested k task a nested };
+      of_set_event = record { nested = keeps_nested k (events_set k a b) (events_set_keeps_holders k a b) nested };
+      of_clear_event = clear_leaves k task a nested;
+      of_get_event = checked_leaves k GetEvent (event_status k a) (tells k GetEvent (events_of k a)) nested (λ _. record { nested = nested });
+      of_wait_event = wait_leaves k task a nested;
+      of_get_alarm = checked_leaves k GetAlarm (left_status k.alarms a) (tells k GetAlarm (left_ticks k.alarms a)) nested (λ _. record { nested = nested });
+      of_set_rel_alarm = same_leaves k (set_rel_alarm k a b c) nested refl refl;
+      of_set_abs_alarm = same_leaves k (set_abs_alarm k a b c) nested refl refl;
+      of_cancel_alarm = same_leaves k (cancel_alarm k a) nested refl refl;
+      of_send = send_leaves k a (take 4 (drop 1 args)) nested;
+      of_receive = receive_leaves k a (slice_get k.boxes a) nested;
+      of_read_input = checked_leaves k ReadInput (port_status a) (tells k ReadInput (slice_index k.ports a)) nested (λ _. record { nested = nested });
+      of_write_output = checked_leaves k WriteOutput (port_status a) (writes k WriteOutput (record { task = task; port = a; value = b })) nested (λ _. record { nested = nested });
+      of_shutdown_os = record { nested = keeps_nested k (stopped k false) (stopped_keeps_holders k false) nested };
+      other = record { nested = nested };
+    })
 
 pub call_keeps_nested : CallKeepsNested
 call_keeps_nested k task service args h nested settled runs =

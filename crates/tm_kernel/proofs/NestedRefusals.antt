@@ -3,6 +3,8 @@ use Rattle.std.proofs.Common.{◌≡◌, ℕ, ◌+◌, ◌<◌, Bool, true, fals
 use Rattle.std.specs.List.{fold}
 use Rattle.std.proofs.lemmas.Bool.{cases_eq, cases_lt, eqb-true, ltb-true}
 use Rattle.tm_marker.specs.declared.entries.DataEntry.{DataEntry}
+use Rattle.tm_marker.specs.declared.service.Service.TheVariants.{GetResource}
+use Rattle.tm_marker.specs.Service.{service_number, service_of}
 use Rattle.tm_services.specs.declared.status.TheConstants.{E_OK, E_OS_ACCESS, E_OS_ID}
 use Rattle.tm_services.specs.Ceilings.{CeilingsView, held_by, is_user, times_in, times_held, is_held, get_status}
 use Rattle.tm_kernel.specs.State.{KernelState, IsKernel, IsRunning}
@@ -50,15 +52,16 @@ refused_held c task res user status = go (ltb res c.resources) (is_user (slice_i
     go true false held t d h e = cc
     go false declared held t d h e = absurd (omega arith)
 
--- the sixth service answers the status of GetResource
-get_answers : (k : KernelState) (task service : ℕ) (args : List ℕ) → service ≡ 6 →
+-- GetResource answers its status
+get_answers : (k : KernelState) (task service : ℕ) (args : List ℕ) → service ≡ service_number GetResource →
     (answer k task service args).entry.status ≡ get_status k.ceilings task (slice_index args 0)
+unfolding service_of
 get_answers k task service args e = subst (λ (s : ℕ). (answer k task s args).entry.status ≡ get_status k.ceilings task (slice_index args 0)) (sym e) refl
 
 pub refused_users_hold : RefusedUsersHold
-refused_users_hold k task service args h nested settled runs six user refused =
+refused_users_hold k task service args h nested settled runs called user refused =
     let res : ℕ = slice_index args 0 in
-    let status : get_status k.ceilings task res ≡ E_OS_ACCESS = sym (get_answers k task service args six) ∙ refused in
+    let status : get_status k.ceilings task res ≡ E_OS_ACCESS = sym (get_answers k task service args called) ∙ refused in
     let (there, held) = refused_held k.ceilings task res user status in
     let (holder, found) = holder_of k.ceilings res held in
     elim (cases_eq holder task) [

@@ -2,6 +2,7 @@
 use Rattle.std.specs.Prelude.{◌≡◌, ◌≢◌, ℕ, ◌<◌, ◌≤◌, ◌⊎◌, Bool, List, length, slice_get, Some}
 use Rattle.tm_marker.specs.declared.entries.Kind.{Kind}
 use Rattle.tm_marker.specs.declared.entries.Kind.TheVariants.{Preempted, Waits, Ends, Fault, Shutdown, Idle}
+use Rattle.tm_marker.specs.declared.tail.TheConstants.{GOES_ON, FAULTED, SHUT_DOWN}
 use Rattle.tm_services.specs.Ceilings.{current}
 use Rattle.tm_services.specs.declared.status.TheConstants.{E_OK}
 use Rattle.tm_kernel.specs.declared.kernel.Need.TheVariants.{Goes, Leaves}
@@ -57,7 +58,7 @@ PicksSomebody = (k : KernelState) (task : ℕ) → IsKernel k → CanRun k task 
 
 -- after a rescheduling, while the run goes on, the picked task runs; where nobody is picked, nobody runs
 abbrev pub RunsThePick : Type 0
-RunsThePick = (k : KernelState) → IsKernel k → k.ended ≡ 0 → (rescheduled k).running ≡ pick k
+RunsThePick = (k : KernelState) → IsKernel k → k.ended ≡ GOES_ON → (rescheduled k).running ≡ pick k
 
 -- after a rescheduling nobody runs, or a task that there is
 abbrev pub RunsATask : Type 0
@@ -126,7 +127,7 @@ CallGoesOn = (k : KernelState) (task service : ℕ) (args : List ℕ) → length
 abbrev pub LeavesBy : Kind → KernelState → ℕ → KernelState → Type 0
 LeavesBy Waits k task new = (new.ended ≡ k.ended) × ((rescheduled new).running ≢ task)
 LeavesBy Ends k task new = new.ended ≡ k.ended
-LeavesBy Shutdown k task new = (new.ended ≡ 2) × ((rescheduled new).running ≡ nobody)
+LeavesBy Shutdown k task new = (new.ended ≡ SHUT_DOWN) × ((rescheduled new).running ≡ nobody)
 LeavesBy Preempted k task new = ⊥
 LeavesBy Fault k task new = ⊥
 LeavesBy Idle k task new = ⊥
@@ -147,5 +148,5 @@ RefusalChangesNothing = (k : KernelState) (task service : ℕ) (args : List ℕ)
 abbrev pub StopEnds : Type 0
 StopEnds = (k : KernelState) (fault : Bool) → IsKernel k → k.running ≢ nobody →
     ((stopped k fault).running ≡ nobody) ×
-    (((stopped k fault).ended ≡ 1) ⊎ ((stopped k fault).ended ≡ 2)) ×
+    (((stopped k fault).ended ≡ FAULTED) ⊎ ((stopped k fault).ended ≡ SHUT_DOWN)) ×
     (slice_get (stopped k fault).states k.running ≡ Some Ready)

@@ -6,6 +6,9 @@
 -- so none below it gets more. A task that is picked while another holds a resource that it uses would need a
 -- priority above the ceiling of that resource, which is no less than its own.
 use Rattle.std.specs.Prelude.{◌≡◌, ◌≢◌, ℕ, ◌<◌, ◌⊎◌, Bool, true, List, slice_index, Contains}
+use Rattle.tm_marker.specs.declared.service.Service.TheVariants.{GetResource}
+use Rattle.tm_marker.specs.Service.{service_number}
+use Rattle.tm_marker.specs.declared.tail.TheConstants.{GOES_ON}
 use Rattle.tm_services.specs.Ceilings.{current, holds, is_user, held_by}
 use Rattle.tm_services.specs.declared.status.TheConstants.{E_OS_ACCESS}
 use Rattle.tm_kernel.specs.declared.spec.KernelSpec.{KernelSpec}
@@ -40,7 +43,7 @@ IsSettled k = k.running ≢ nobody → k.running ≡ pick k
 
 -- after the end of the run nobody runs
 abbrev pub IsIdleAtEnd : KernelState → Type 0
-IsIdleAtEnd k = k.ended ≢ 0 → k.running ≡ nobody
+IsIdleAtEnd k = k.ended ≢ GOES_ON → k.running ≡ nobody
 
 -- at boot no task holds a resource
 abbrev pub BootIsNested : Type 0
@@ -67,7 +70,7 @@ StopKeepsNested = (k : KernelState) (fault : Bool) → IsKernel k → IsNested k
 -- nobody is picked, and after its end nobody runs
 pub record ReschedulingSettles (k : KernelState) : Type 0 where
   pub settled : IsSettled (rescheduled k)
-  pub nobody_waits : k.ended ≡ 0 → (rescheduled k).running ≡ nobody → pick (rescheduled k) ≡ nobody
+  pub nobody_waits : k.ended ≡ GOES_ON → (rescheduled k).running ≡ nobody → pick (rescheduled k) ≡ nobody
   pub idle : IsIdleAtEnd (rescheduled k)
 
 abbrev pub EveryReschedulingSettles : Type 0
@@ -82,7 +85,7 @@ UsersNeverBlock = (k : KernelState) (task res other : ℕ) → IsKernel k → Is
 -- a declared user that calls GetResource, and is refused with E_OS_ACCESS, holds the resource itself
 abbrev pub RefusedUserHolds : KernelState → ℕ → ℕ → List ℕ → ℕ → Type 0
 RefusedUserHolds k task service args status =
-    service ≡ 6 → is_user (slice_index k.ceilings.users (slice_index args 0)) task ≡ true → status ≡ E_OS_ACCESS →
+    service ≡ service_number GetResource → is_user (slice_index k.ceilings.users (slice_index args 0)) task ≡ true → status ≡ E_OS_ACCESS →
     Contains (held_by k.ceilings task) (slice_index args 0)
 
 -- so the only refusal of a declared user for want of access is that of its own second request

@@ -1,5 +1,6 @@
 -- Who runs next, and what an interrupt does.
 use Rattle.std.specs.Prelude.{ℕ, ◌+◌, ◌/◌, ◌%◌, ◌^◌, Bool, ◌==◌, ◌&&◌, if◌then◌else◌, List, [], ◌∷◌, map, fold, position, slice_set, Option, unwrap_or, max}
+use Rattle.tm_marker.specs.declared.tail.TheConstants.{GOES_ON}
 use Rattle.tm_services.specs.Ceilings.{CeilingsView, current, holds}
 use Rattle.tm_services.specs.Alarms.{ticked, due}
 use Rattle.tm_kernel.specs.declared.spec.Action.{Action}
@@ -56,7 +57,7 @@ run_task k task = record k { states = slice_set (paused k) task Running; running
 
 -- one rescheduling, while the run goes on: the picked task runs, where there is one
 abbrev pub rescheduled : KernelState → KernelState
-rescheduled k = if k.ended == 0 then (if pick k == nobody then k else run_task k (pick k)) else k
+rescheduled k = if k.ended == GOES_ON then (if pick k == nobody then k else run_task k (pick k)) else k
 
 -- what an alarm or a line does to the tasks; an action that would be refused has no effect
 abbrev pub acted : KernelState → Action → KernelState

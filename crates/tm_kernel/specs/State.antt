@@ -1,5 +1,8 @@
 -- A kernel, as a record of plain lists (tasks, events, resources, alarms: OSEK/VDX OS 2.2.3, 4, 7, 8, 9).
 use Rattle.std.specs.Prelude.{◌≡◌, ℕ, ◌<◌, ◌≤◌, ◌-◌, ◌⊎◌, ◌==◌, Bool, false, if◌then◌else◌, List, [], ◌++◌, map, length, replicate, slice_get, slice_set, Some, option_map, unwrap_or, All}
+use Rattle.tm_marker.specs.declared.entries.TheConstants.{PORTS}
+use Rattle.tm_marker.specs.declared.tail.TheConstants.{GOES_ON, FAULTED, SHUT_DOWN, SUSPENDED, READY, RUNNING, WAITING}
+pub use Rattle.tm_marker.specs.Tail.{nobody}
 use Rattle.tm_services.specs.Ceilings.{CeilingsView, IsCeilings, nothing_held}
 use Rattle.tm_services.specs.Alarms.{AlarmsView, IsAlarms, all_off}
 use Rattle.tm_kernel.specs.declared.kernel.TaskState.{TaskState}
@@ -8,14 +11,10 @@ use Rattle.tm_kernel.specs.declared.spec.KernelSpec.{KernelSpec}
 use Rattle.tm_kernel.specs.Spec.{IsKernelSpec}
 use Rattle.tm_kernel.specs.Mailboxes.{Message}
 
--- the number that stands for no task
-abbrev pub nobody : ℕ
-nobody = 255
-
 -- the specification; for each task its state, its events that are set and those that it waits for, as
 -- masks; the resources that each task holds; the alarms and their counter; each box's messages, oldest
--- first; the latched words of the four input ports; the running task or nobody; and whether the run has
--- ended: 0 it goes on, 1 by a fault, 2 by a shutdown
+-- first; the latched words of the input ports; the running task or nobody; and whether the run goes on or
+-- has ended, and by what
 pub record KernelState : Type 0 where
   pub spec : KernelSpec
   pub states : List TaskState
@@ -30,10 +29,10 @@ pub record KernelState : Type 0 where
 
 -- the numbers of the states
 abbrev pub state_number : TaskState → ℕ
-state_number Suspended = 0
-state_number Ready = 1
-state_number Running = 2
-state_number Waiting = 3
+state_number Suspended = SUSPENDED
+state_number Ready = READY
+state_number Running = RUNNING
+state_number Waiting = WAITING
 
 -- a task's state at boot
 abbrev pub boot_state : Bool → TaskState
@@ -62,9 +61,9 @@ booted spec = record {
   ceilings = boot_ceilings spec;
   alarms = boot_alarms spec;
   boxes = replicate (length spec.boxes) [];
-  ports = replicate 4 0;
+  ports = replicate PORTS 0;
   running = nobody;
-  ended = 0;
+  ended = GOES_ON;
 }
 
 -- the task is an extended one
@@ -85,7 +84,7 @@ paused k = if k.running == nobody then k.states else slice_set k.states k.runnin
 
 -- a run's end, by a fault or by a shutdown: the running task becomes ready, and nobody runs
 abbrev pub stopped : KernelState → Bool → KernelState
-stopped k fault = record k { states = paused k; running = nobody; ended = if fault then 1 else 2 }
+stopped k fault = record k { states = paused k; running = nobody; ended = if fault then FAULTED else SHUT_DOWN }
 
 -- the task is the running one
 pub record IsRunning (k : KernelState) (task : ℕ) : Type 0 where
@@ -115,4 +114,4 @@ pub record IsKernel (k : KernelState) : Type 0 where
       slice_get k.boxes box ≡ Some messages → IsBox capacity messages
   pub running : (k.running ≡ nobody) ⊎ (slice_get k.states k.running ≡ Some Running)
   pub alone : (t : ℕ) → slice_get k.states t ≡ Some Running → k.running ≡ t
-  pub ended : k.ended ≤ 2
+  pub ended : k.ended ≤ SHUT_DOWN

@@ -19,7 +19,7 @@ use crate::mailbox::Mailboxes;
 use crate::{KernelSpec, TaskSpec};
 use std::alloc::{AllocError, Global};
 use std::marker::Model;
-use tm_marker::{DataEntry, Items, Kind, NOBODY, OutputEntry};
+use tm_marker::{DataEntry, GOES_ON, Items, Kind, NOBODY, OutputEntry, PORTS};
 use tm_services::{Alarms, Ceilings};
 
 /// The states of a task (OSEK/VDX OS 2.2.3, 4.2).
@@ -57,7 +57,7 @@ pub struct Kernel {
     ceilings: Ceilings,
     alarms: Alarms,
     boxes: Mailboxes,
-    ports: [u32; 4],
+    ports: [u32; PORTS],
     running: u8,
     ended: u8,
 }
@@ -115,9 +115,9 @@ impl Kernel {
             alarms: Alarms::new(spec.alarms.len() as u8),
             boxes: Mailboxes::new(alloc, spec.boxes.as_slice())?,
             spec: copied(alloc, spec)?,
-            ports: [0; 4],
+            ports: [0; PORTS],
             running: NOBODY,
-            ended: 0,
+            ended: GOES_ON,
         })
     }
 
@@ -129,7 +129,8 @@ impl Kernel {
         self.running
     }
 
-    /// 0 while the run goes on, 1 after a fault, 2 after a shutdown.
+    /// Whether the run goes on ([`GOES_ON`]) or has ended, by [`tm_marker::FAULTED`] or
+    /// [`tm_marker::SHUT_DOWN`].
     pub fn ended(&self) -> u8
         ensures { result ≡ self.now.ended }
     {
@@ -145,7 +146,8 @@ impl Kernel {
         self.states.len()
     }
 
-    /// The number of a task's state: 0 suspended, 1 ready, 2 running, 3 waiting.
+    /// The number of a task's state: [`tm_marker::SUSPENDED`], [`tm_marker::READY`],
+    /// [`tm_marker::RUNNING`] or [`tm_marker::WAITING`].
     pub fn state(&self, task: u8) -> u8
         requires { task < length self.now.states }
         ensures { option_map state_number (slice_get self.now.states task) ≡ Some result }

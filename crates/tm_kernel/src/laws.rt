@@ -1,9 +1,20 @@
 //! Laws of every kernel. Each function here does nothing: its clauses are the laws, stated over
 //! the values that contracts see.
 
+ghost use Rattle.std.specs.Prelude.{◌≡◌};
 ghost use Rattle.tm_kernel.specs.Laws.{BootIsKernel, CallKeeps, ArrivalKeeps, RunKeeps, ReschedulingKeeps, StopKeeps};
 ghost use Rattle.tm_kernel.specs.Laws.{PicksGreatest, PicksSomebody, RunsThePick, RunsATask, ReschedulingSameRest, GoesOnRunning};
 ghost use Rattle.tm_kernel.specs.Laws.{ArrivalGoesOn, ArrivalLatches, CallSameRest, CallNamesService, CallGoesOn, CallLeaves, RefusalChangesNothing, StopEnds};
+
+use crate::{MOST_ALARMS, MOST_BOXES, MOST_MESSAGES, MOST_RESOURCES};
+
+/// What the constants are, as figures.
+pub fn constants_are()
+    ensures resources { MOST_RESOURCES ≡ 16 }
+    ensures alarms { MOST_ALARMS ≡ 16 }
+    ensures boxes { MOST_BOXES ≡ 16 }
+    ensures messages { MOST_MESSAGES ≡ 64 }
+{}
 
 /// What every kernel keeps holds at boot, and each step keeps it.
 pub fn kernels_stay_sound()

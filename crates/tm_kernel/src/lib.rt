@@ -12,7 +12,10 @@ pub mod nesting;
 mod spec;
 
 pub use kernel::{Answer, Kernel, Need, TaskState};
-pub use spec::{Action, KernelSpec, LINES, TaskSpec};
+pub use spec::{
+    Action, KernelSpec, MOST_ALARMS, MOST_BOXES, MOST_MESSAGES, MOST_RESOURCES, TaskSpec,
+};
+pub use tm_marker::{LINES, Service};
 pub use tm_services::{
     E_OK, E_OS_ACCESS, E_OS_ID, E_OS_LIMIT, E_OS_NOFUNC, E_OS_RESOURCE, E_OS_STATE, E_OS_VALUE,
 };

@@ -1,9 +1,18 @@
 //! What a kernel is made of: its tasks, resources, alarms, boxes and lines.
 
-use tm_marker::Items;
+use tm_marker::{Items, LINES};
 
-/// How many interrupt lines there are.
-pub const LINES: usize = 16;
+/// How many resources there are at most.
+pub const MOST_RESOURCES: u32 = 16;
+
+/// How many alarms there are at most.
+pub const MOST_ALARMS: u32 = 16;
+
+/// How many boxes there are at most.
+pub const MOST_BOXES: u32 = 16;
+
+/// How many messages a box has room for at most.
+pub const MOST_MESSAGES: u32 = 64;
 
 /// What a line or an alarm does when it comes.
 #[derive(Clone, Copy, Debug, PartialEq, Eq)]
@@ -26,12 +35,12 @@ pub struct TaskSpec {
 }
 
 /// The tasks; for each resource the mask of its declared users; for each alarm its action; for each
-/// box its capacity in messages; and the action of each of the 16 lines.
+/// box its capacity in messages; and the action of each line.
 #[derive(Debug, Drop)]
 pub struct KernelSpec {
     pub tasks: Items<TaskSpec>,
     pub users: Items<u16>,
     pub alarms: Items<Action>,
     pub boxes: Items<u8>,
-    pub lines: [Action; 16],
+    pub lines: [Action; LINES],
 }

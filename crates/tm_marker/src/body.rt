@@ -8,8 +8,10 @@ use std::alloc::{AllocError, Global};
 /// How many registers a body keeps: x1 to x31. The register x0 always reads 0.
 pub const REGISTERS: usize = 31;
 
-/// A task's program counter, its registers x1 to x31, and its data words from address 10000000
-/// hex on.
+/// The address of a task's first data word.
+pub const DATA_START: u32 = 0x1000_0000;
+
+/// A task's program counter, its registers x1 to x31, and its data words from [`DATA_START`] on.
 #[derive(Debug, Drop)]
 pub struct Body {
     pub pc: u32,
@@ -35,5 +37,15 @@ impl Body {
         ensures { self.new ≡ record self.old { words = slice_set self.old.words index value } }
     {
         self.words.set(index as usize, value);
+    }
+
+    /// Becomes a copy of a body of as many data words, without taking memory.
+    pub fn copy_from(&mut self, other: &Body)
+        requires { length self.old.words ≡ length other.now.words }
+        ensures { self.new ≡ other.now }
+    {
+        self.pc = other.pc;
+        self.regs = other.regs;
+        self.words.copy_from_slice(other.words.as_slice());
     }
 }

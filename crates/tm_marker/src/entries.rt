@@ -2,6 +2,15 @@
 
 use crate::Marker;
 
+/// How many instructions follow the arrival of a slice at most.
+pub const LONGEST_SLICE: u32 = 1_048_576;
+
+/// How many interrupt lines there are.
+pub const LINES: usize = 16;
+
+/// How many input ports there are, and how many output ports.
+pub const PORTS: usize = 4;
+
 /// Why control went from one task to the next.
 #[derive(Clone, Copy, Debug, PartialEq, Eq, Hash)]
 pub enum Kind {
@@ -30,7 +39,8 @@ pub struct Switch {
     pub to_at: Marker,
 }
 
-/// What a service call answered: the number of the service, its status, and four words.
+/// What a service call answered: the number of the service ([`crate::Service::number`], or one that no
+/// service has), its status, and four words.
 #[derive(Clone, Copy, Debug, PartialEq, Eq)]
 pub struct DataEntry {
     pub service: u8,
@@ -38,7 +48,7 @@ pub struct DataEntry {
     pub words: [u32; 4],
 }
 
-/// A value that a task wrote to an output port, 0 to 3.
+/// A value that a task wrote to an output port, of which there are [`PORTS`].
 #[derive(Clone, Copy, Debug, PartialEq, Eq)]
 pub struct OutputEntry {
     pub task: u8,
@@ -47,7 +57,7 @@ pub struct OutputEntry {
 }
 
 /// One slice of a script: the lines that arrive first, as bits of a mask, with the input ports'
-/// words, and how many instructions follow at most.
+/// words, and how many instructions follow at most; at most [`LONGEST_SLICE`].
 #[derive(Clone, Copy, Debug, PartialEq, Eq)]
 pub struct Slice {
     pub length: u32,

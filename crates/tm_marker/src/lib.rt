@@ -11,12 +11,14 @@ mod entries;
 mod items;
 pub mod laws;
 mod marker;
+mod service;
 mod shape;
 mod tail;
 
-pub use body::{Body, REGISTERS};
-pub use entries::{DataEntry, Kind, OutputEntry, Slice, Switch};
+pub use body::{Body, DATA_START, REGISTERS};
+pub use entries::{DataEntry, Kind, LINES, LONGEST_SLICE, OutputEntry, PORTS, Slice, Switch};
 pub use items::Items;
 pub use marker::{EPOCH_LENGTH, Marker};
-pub use shape::{Caps, Shape};
-pub use tail::{NOBODY, Tail};
+pub use service::Service;
+pub use shape::{Caps, MOST_CHECKPOINTS, MOST_ITEMS, MOST_TASKS, MOST_WORDS, Shape};
+pub use tail::{FAULTED, GOES_ON, NOBODY, READY, RUNNING, SHUT_DOWN, SUSPENDED, Tail, WAITING};

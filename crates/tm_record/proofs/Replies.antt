@@ -3,6 +3,8 @@ use Rattle.std.proofs.Common.{◌≡◌, ℕ, ◌<◌, ◌≤◌, Bool, true, fa
 use Rattle.std.specs.Prelude.{IfSome}
 use Rattle.std.proofs.lemmas.Bool.{ltb-true}
 use Rattle.tm_marker.specs.declared.entries.Kind.TheVariants.{Waits, Ends}
+use Rattle.tm_marker.specs.declared.service.Service.{Service}
+use Rattle.tm_marker.specs.declared.service.Service.TheVariants.{TerminateTask, ChainTask, GetTaskState, ClearEvent, GetEvent, WaitEvent, GetAlarm, Send, Receive, ReadInput, WriteOutput}
 use Rattle.tm_services.specs.declared.status.TheConstants.{E_OK, E_OS_ACCESS, E_OS_ID, E_OS_LIMIT, E_OS_NOFUNC, E_OS_RESOURCE, E_OS_STATE, E_OS_VALUE}
 use Rattle.tm_services.specs.Ceilings.{CeilingsView, holds, get_status, release_status, is_user, is_held, is_last, held_by}
 use Rattle.tm_services.specs.Alarms.{AlarmView, Off, Armed, setting, using, left_status, left_ticks}
@@ -11,12 +13,7 @@ use Rattle.tm_kernel.specs.declared.kernel.TaskState.TheVariants.{Suspended, Rea
 use Rattle.tm_kernel.specs.Mailboxes.{Message, send_status}
 use Rattle.tm_kernel.specs.State.{KernelState, events_of, is_extended}
 use Rattle.tm_kernel.specs.Service.{Answered, answer, goes_on, leaves, tells, writes, checked, activation, activated, suspended, holding_status, chaining, event_status, event_status_in, own_event_status, without_events, wait_status, waiting, sent, port_status}
-use Rattle.tm_kernel.proofs.Answering.{answer_by, checked_by, get_task_state_by, receive_by}
-
--- what holds where a test passes and where it fails
-if_by : {X : Type 0} (P : X → Type 0) (b : Bool) (x y : X) → P x → P y → P (if b then x else y)
-if_by P true x y p q = p
-if_by P false x y p q = q
+use Rattle.tm_kernel.proofs.Answering.{if_by, answer_where, checked_by, get_task_state_by, receive_by}
 
 -- an answer of at most 8, with an output of the caller at one of the four ports, where there is one
 pub record IsReply (task : ℕ) (a : Answered) : Type 0 where
@@ -82,11 +79,11 @@ send_small capacities box None = omega arith
 send_small capacities box (Some messages) = either _ E_OK E_OS_LIMIT (omega arith) (omega arith)
 
 -- a call that only answers a status
-calm : (task : ℕ) (k : KernelState) (service status : ℕ) → status ≤ 8 → IsReply task (goes_on k service status)
+calm : (task : ℕ) (k : KernelState) (service : Service) (status : ℕ) → status ≤ 8 → IsReply task (goes_on k service status)
 calm task k service status small = record { status = small; output = tt }
 
 -- a call that is done, or refused with a status
-checked_small : (task : ℕ) (k : KernelState) (service status : ℕ) (done : Answered) → status ≤ 8 → IsReply task done →
+checked_small : (task : ℕ) (k : KernelState) (service : Service) (status : ℕ) (done : Answered) → status ≤ 8 → IsReply task done →
     IsReply task (checked k service status done)
 checked_small task k service status done small reply =
     checked_by (IsReply task) k service status done (λ _. reply) (λ _. calm task k service status small)
@@ -106,35 +103,35 @@ pub replies : (k : KernelState) (task service : ℕ) (args : List ℕ) → IsRep
 replies k task service args =
     let P : Answered → Type 0 = IsReply task in
     let a : ℕ = slice_index args 0 in
-    answer_by P k task service args (record {
+    answer_where P k task service args (record {
       of_activate_task = record { status = activation_small (slice_get k.states a); output = tt };
-      of_terminate_task = checked_small task k 2 (holding_status k task) (leaves (suspended k task) 2 Ends)
+      of_terminate_task = checked_small task k TerminateTask (holding_status k task) (leaves (suspended k task) TerminateTask Ends)
           (either (holds k.ceilings task) E_OS_RESOURCE E_OK (omega arith) (omega arith)) (record { status = omega arith; output = tt });
-      of_chain_task = checked_small task k 3 (chaining k task a) (leaves (activated (suspended k task) a) 3 Ends) (chaining_small k task a)
+      of_chain_task = checked_small task k ChainTask (chaining k task a) (leaves (activated (suspended k task) a) ChainTask Ends) (chaining_small k task a)
           (record { status = omega arith; output = tt });
       of_get_task_id = record { status = omega arith; output = tt };
-      of_get_task_state = get_task_state_by P k (slice_get k.states a) (calm task k 5 E_OS_ID (omega arith)) (λ _. record { status = omega arith; output = tt });
+      of_get_task_state = get_task_state_by P k (slice_get k.states a) (calm task k GetTaskState E_OS_ID (omega arith)) (λ _. record { status = omega arith; output = tt });
       of_get_resource = record { status = get_small k.ceilings task a; output = tt };
       of_release_resource = record { status = release_small k.ceilings task a; output = tt };
       of_set_event = record { status = event_small k a (slice_get k.states a); output = tt };
-      of_clear_event = checked_small task k 9 (own_event_status k task) (goes_on (without_events k task a) 9 E_OK)
+      of_clear_event = checked_small task k ClearEvent (own_event_status k task) (goes_on (without_events k task a) ClearEvent E_OK)
           (either (is_extended k task) E_OK E_OS_ACCESS (omega arith) (omega arith)) (record { status = omega arith; output = tt });
-      of_get_event = checked_small task k 10 (event_status k a) (tells k 10 (events_of k a)) (event_small k a (slice_get k.states a))
+      of_get_event = checked_small task k GetEvent (event_status k a) (tells k GetEvent (events_of k a)) (event_small k a (slice_get k.states a))
           (record { status = omega arith; output = tt });
-      of_wait_event = checked_small task k 11 (wait_status k task a) _ (wait_small k task a)
-          (if_by P _ (leaves (waiting k task a) 11 Waits) (goes_on k 11 E_OK) (record { status = omega arith; output = tt }) (record { status = omega arith; output = tt }));
-      of_get_alarm = checked_small task k 12 (left_status k.alarms a) (tells k 12 (left_ticks k.alarms a)) (using_small (slice_get k.alarms.alarms a))
+      of_wait_event = checked_small task k WaitEvent (wait_status k task a) _ (wait_small k task a)
+          (if_by P _ (leaves (waiting k task a) WaitEvent Waits) (goes_on k WaitEvent E_OK) (record { status = omega arith; output = tt }) (record { status = omega arith; output = tt }));
+      of_get_alarm = checked_small task k GetAlarm (left_status k.alarms a) (tells k GetAlarm (left_ticks k.alarms a)) (using_small (slice_get k.alarms.alarms a))
           (record { status = omega arith; output = tt });
       of_set_rel_alarm = record { status = setting_small (slice_get k.alarms.alarms a) _; output = tt };
       of_set_abs_alarm = record { status = setting_small (slice_get k.alarms.alarms a) _; output = tt };
       of_cancel_alarm = record { status = using_small (slice_get k.alarms.alarms a); output = tt };
-      of_send = checked_small task k 16 (send_status k.spec.boxes a (slice_get k.boxes a)) (goes_on (sent k a (take 4 (drop 1 args))) 16 E_OK)
+      of_send = checked_small task k Send (send_status k.spec.boxes a (slice_get k.boxes a)) (goes_on (sent k a (take 4 (drop 1 args))) Send E_OK)
           (send_small k.spec.boxes a (slice_get k.boxes a)) (record { status = omega arith; output = tt });
-      of_receive = receive_by P k a (slice_get k.boxes a) (calm task k 17 E_OS_ID (omega arith)) (calm task k 17 E_OS_NOFUNC (omega arith))
+      of_receive = receive_by P k a (slice_get k.boxes a) (calm task k Receive E_OS_ID (omega arith)) (calm task k Receive E_OS_NOFUNC (omega arith))
           (λ _ _ _. record { status = omega arith; output = tt });
-      of_read_input = checked_small task k 18 (port_status a) (tells k 18 (slice_index k.ports a)) (port_small a) (record { status = omega arith; output = tt });
-      of_write_output = checked_by P k 19 (port_status a) (writes k 19 (record { task = task; port = a; value = slice_index args 1 }))
-          (λ ok. record { status = omega arith; output = (refl, port_there a ok) }) (λ _. calm task k 19 (port_status a) (port_small a));
+      of_read_input = checked_small task k ReadInput (port_status a) (tells k ReadInput (slice_index k.ports a)) (port_small a) (record { status = omega arith; output = tt });
+      of_write_output = checked_by P k WriteOutput (port_status a) (writes k WriteOutput (record { task = task; port = a; value = slice_index args 1 }))
+          (λ ok. record { status = omega arith; output = (refl, port_there a ok) }) (λ _. calm task k WriteOutput (port_status a) (port_small a));
       of_shutdown_os = record { status = omega arith; output = tt };
-      other = calm task k service E_OS_NOFUNC (omega arith);
+      other = record { status = omega arith; output = tt };
     })

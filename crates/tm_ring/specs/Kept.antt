@@ -2,6 +2,7 @@
 use Rattle.std.specs.Prelude.{◌≡◌, ℕ, ◌+◌, ◌-◌, ◌<◌, ◌≤◌, ◌^◌, if◌then◌else◌, nat_lt, List, [], ◌∷◌, ◌++◌, length, slice_get, Option, None, refl}
 use Rattle.std.specs.Coded.{Coded, code_by, coded×, coded_list, coded_ℕ}
 use Rattle.circular_buffer.specs.Buffer.{keep_last}
+use Rattle.tm_marker.specs.declared.shape.TheConstants.{MOST_ITEMS}
 
 -- the kept items, oldest first; how many items there were in all; and how many are kept at most
 pub record Kept (X : Type 0) : Type 0 where
@@ -31,10 +32,10 @@ module _ {X : Type 0} where
     pub reached : first_of ring ≤ number
     pub made : number < ring.total
 
-  -- what every ring keeps: 1 to 65,536 items at most, and no more than there were
+  -- what every ring keeps: a capacity that a ring can have, and no more items than it or than there were
   pub record IsRing (ring : Kept X) : Type 0 where
     pub some : 0 < ring.cap
-    pub few : ring.cap ≤ 65536
+    pub few : ring.cap ≤ MOST_ITEMS
     pub fit : length ring.items ≤ ring.cap
     pub among : length ring.items ≤ ring.total
     pub counted : ring.total ≤ 2 ^ 53

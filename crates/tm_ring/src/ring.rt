@@ -6,9 +6,10 @@ ghost use Rattle.tm_ring.specs.Kept.{kept, pushed, first_of, item_of, IsKeptAt, 
 use circular_buffer::HeapCircularBuffer;
 use std::alloc::{AllocError, Global};
 use std::marker::Model;
+use tm_marker::MOST_ITEMS;
 
-/// The last items pushed, up to a capacity of 1 to 65,536, and how many were pushed in all, at most
-/// 2^53. Items are numbered from 0 in the order in which they were pushed.
+/// The last items pushed, up to a capacity of 1 to [`MOST_ITEMS`], and how many were pushed in all, at
+/// most 2^53. Items are numbered from 0 in the order in which they were pushed.
 #[derive(Drop)]
 pub struct Ring<T> {
     items: HeapCircularBuffer<T>,
@@ -31,7 +32,7 @@ impl<T: Copy> Ring<T> {
     /// A ring into which nothing was pushed.
     pub fn new(alloc: Global, cap: u32) -> Result<Self, AllocError>
         requires some { 0 < cap }
-        requires few { cap ≤ 65536 }
+        requires few { cap ≤ MOST_ITEMS }
         ensures { IfOk result (λ ring. ring ≡ kept [] 0 cap) }
     {
         Ring::starting(alloc, cap, 0)
@@ -40,7 +41,7 @@ impl<T: Copy> Ring<T> {
     /// A ring that keeps none of the items pushed so far, `total` in number.
     pub fn starting(alloc: Global, cap: u32, total: u64) -> Result<Self, AllocError>
         requires some { 0 < cap }
-        requires few { cap ≤ 65536 }
+        requires few { cap ≤ MOST_ITEMS }
         requires counted { total ≤ 2 ^ 53 }
         ensures { IfOk result (λ ring. ring ≡ kept [] total cap) }
     {

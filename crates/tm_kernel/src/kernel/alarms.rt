@@ -5,10 +5,10 @@ ghost use Rattle.tm_services.specs.Alarms.{due as due_alarms};
 ghost use Rattle.tm_kernel.specs.Service.{IsAnswer, get_alarm, set_rel_alarm, set_abs_alarm, cancel_alarm};
 ghost use Rattle.tm_kernel.specs.Schedule.{acted, due_actions, tick};
 
-use super::call::{CANCEL_ALARM, GET_ALARM, SET_ABS_ALARM, SET_REL_ALARM};
 use super::reply::{goes_on, tells};
 use super::{Answer, Kernel};
 use crate::{Action, E_OK};
+use tm_marker::Service;
 
 impl Kernel {
     pub(super) fn get_alarm(&mut self, alarm: u32) -> Answer
@@ -16,30 +16,30 @@ impl Kernel {
     {
         let left = self.alarms.left(alarm);
         if left.status != E_OK {
-            return goes_on(GET_ALARM, left.status);
+            return goes_on(Service::GetAlarm, left.status);
         }
-        tells(GET_ALARM, left.ticks)
+        tells(Service::GetAlarm, left.ticks)
     }
 
     pub(super) fn set_rel_alarm(&mut self, alarm: u32, increment: u32, cycle: u32) -> Answer
         ensures { IsAnswer (set_rel_alarm self.old alarm increment cycle) self.new result }
     {
         let status = self.alarms.set_rel(alarm, increment, cycle);
-        goes_on(SET_REL_ALARM, status)
+        goes_on(Service::SetRelAlarm, status)
     }
 
     pub(super) fn set_abs_alarm(&mut self, alarm: u32, start: u32, cycle: u32) -> Answer
         ensures { IsAnswer (set_abs_alarm self.old alarm start cycle) self.new result }
     {
         let status = self.alarms.set_abs(alarm, start, cycle);
-        goes_on(SET_ABS_ALARM, status)
+        goes_on(Service::SetAbsAlarm, status)
     }
 
     pub(super) fn cancel_alarm(&mut self, alarm: u32) -> Answer
         ensures { IsAnswer (cancel_alarm self.old alarm) self.new result }
     {
         let status = self.alarms.cancel(alarm);
-        goes_on(CANCEL_ALARM, status)
+        goes_on(Service::CancelAlarm, status)
     }
 
     /// All alarms count down by one, then the actions of those that are due are performed.

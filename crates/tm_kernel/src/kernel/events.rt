@@ -4,18 +4,17 @@ ghost use Rattle.std.specs.Prelude.{◌≡◌, ◌<◌, length, slice_get};
 ghost use Rattle.tm_kernel.specs.State.{IsRunning, is_extended, events_of};
 ghost use Rattle.tm_kernel.specs.Service.{IsAnswer, set_event, clear_event, get_event, wait_event, events_set, event_status, with_events, without_events, own_event_status, wait_status, waiting};
 
-use super::call::{CLEAR_EVENT, GET_EVENT, SET_EVENT, WAIT_EVENT};
 use super::reply::{goes_on, leaves, tells};
 use super::{Answer, Kernel, TaskState};
 use crate::{E_OK, E_OS_ACCESS, E_OS_ID, E_OS_RESOURCE, E_OS_STATE, E_OS_VALUE};
-use tm_marker::{Kind, NOBODY};
+use tm_marker::{Kind, NOBODY, Service};
 
 impl Kernel {
     pub(super) fn set_event(&mut self, task: u32, mask: u32) -> Answer
         ensures { IsAnswer (set_event self.old task mask) self.new result }
     {
         let status = self.set_events(task, mask);
-        goes_on(SET_EVENT, status)
+        goes_on(Service::SetEvent, status)
     }
 
     pub(super) fn clear_event(&mut self, caller: u8, mask: u32) -> Answer
@@ -24,10 +23,10 @@ impl Kernel {
     {
         let status = self.own_event_status(caller);
         if status != E_OK {
-            return goes_on(CLEAR_EVENT, status);
+            return goes_on(Service::ClearEvent, status);
         }
         self.clear_events(caller, mask);
-        goes_on(CLEAR_EVENT, E_OK)
+        goes_on(Service::ClearEvent, E_OK)
     }
 
     pub(super) fn get_event(&mut self, task: u32) -> Answer
@@ -35,9 +34,9 @@ impl Kernel {
     {
         let status = self.event_status(task);
         if status != E_OK {
-            return goes_on(GET_EVENT, status);
+            return goes_on(Service::GetEvent, status);
         }
-        tells(GET_EVENT, self.events_of(task))
+        tells(Service::GetEvent, self.events_of(task))
     }
 
     pub(super) fn wait_event(&mut self, caller: u8, mask: u32) -> Answer
@@ -46,13 +45,13 @@ impl Kernel {
     {
         let status = self.wait_status(caller, mask);
         if status != E_OK {
-            return goes_on(WAIT_EVENT, status);
+            return goes_on(Service::WaitEvent, status);
         }
         if self.events_of(u32::from(caller)) & mask != 0 {
-            return goes_on(WAIT_EVENT, E_OK);
+            return goes_on(Service::WaitEvent, E_OK);
         }
         self.wait(caller, mask);
-        leaves(WAIT_EVENT, Kind::Waits)
+        leaves(Service::WaitEvent, Kind::Waits)
     }
 
     /// Sets events of a task, and makes it ready where it waits for one that is set then; the status

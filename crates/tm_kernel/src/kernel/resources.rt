@@ -5,9 +5,9 @@ ghost use Rattle.tm_services.specs.Ceilings.{holds};
 ghost use Rattle.tm_kernel.specs.State.{IsRunning};
 ghost use Rattle.tm_kernel.specs.Service.{IsAnswer, get_resource, release_resource};
 
-use super::call::{GET_RESOURCE, RELEASE_RESOURCE};
 use super::reply::goes_on;
 use super::{Answer, Kernel};
+use tm_marker::Service;
 
 impl Kernel {
     pub(super) fn get_resource(&mut self, caller: u8, resource: u32) -> Answer
@@ -15,7 +15,7 @@ impl Kernel {
         ensures { IsAnswer (get_resource self.old caller resource) self.new result }
     {
         let status = self.ceilings.get(caller, resource);
-        goes_on(GET_RESOURCE, status)
+        goes_on(Service::GetResource, status)
     }
 
     pub(super) fn release_resource(&mut self, caller: u8, resource: u32) -> Answer
@@ -23,7 +23,7 @@ impl Kernel {
         ensures { IsAnswer (release_resource self.old caller resource) self.new result }
     {
         let status = self.ceilings.release(caller, resource);
-        goes_on(RELEASE_RESOURCE, status)
+        goes_on(Service::ReleaseResource, status)
     }
 
     /// Whether the running task holds a resource.

@@ -7,7 +7,7 @@ ghost use Rattle.tm_kernel.specs.Schedule.{pick, run_task, rescheduled, arrived,
 use super::claim::first_greatest;
 use super::{Kernel, TaskState};
 use crate::{Action, LINES};
-use tm_marker::NOBODY;
+use tm_marker::{FAULTED, GOES_ON, NOBODY, SHUT_DOWN};
 
 impl Kernel {
     /// The ready or running task of greatest current priority, the holder of a resource among equals,
@@ -37,7 +37,7 @@ impl Kernel {
         ensures sound { IsKernel self.new }
     {
         let task = self.pick();
-        if self.ended == 0 && task != NOBODY {
+        if self.ended == GOES_ON && task != NOBODY {
             self.run(task);
         }
     }
@@ -49,7 +49,7 @@ impl Kernel {
         ensures sound { IsKernel self.new }
     {
         self.pause();
-        self.ended = if fault { 1 } else { 2 };
+        self.ended = if fault { FAULTED } else { SHUT_DOWN };
     }
 
     /// Latches the input ports and performs the actions of the mask's lines in rising line,

@@ -4,20 +4,17 @@ ghost use Rattle.std.specs.Prelude.{◌≡◌, slice_get};
 ghost use Rattle.tm_kernel.specs.State.{IsRunning};
 ghost use Rattle.tm_kernel.specs.Service.{IsAnswer, activate_task, terminate_task, chain_task, get_task_id, get_task_state, shutdown_os, activated, suspended, holding_status, chaining, activation};
 
-use super::call::{
-    ACTIVATE_TASK, CHAIN_TASK, GET_TASK_ID, GET_TASK_STATE, SHUTDOWN_OS, TERMINATE_TASK,
-};
 use super::reply::{goes_on, leaves, tells};
 use super::{Answer, Kernel, TaskState};
 use crate::{E_OK, E_OS_ID, E_OS_LIMIT, E_OS_RESOURCE};
-use tm_marker::{Kind, NOBODY};
+use tm_marker::{Kind, NOBODY, Service};
 
 impl Kernel {
     pub(super) fn activate_task(&mut self, task: u32) -> Answer
         ensures { IsAnswer (activate_task self.old task) self.new result }
     {
         let status = self.activate(task);
-        goes_on(ACTIVATE_TASK, status)
+        goes_on(Service::ActivateTask, status)
     }
 
     pub(super) fn terminate_task(&mut self, caller: u8) -> Answer
@@ -26,10 +23,10 @@ impl Kernel {
     {
         let status = self.holding_status(caller);
         if status != E_OK {
-            return goes_on(TERMINATE_TASK, status);
+            return goes_on(Service::TerminateTask, status);
         }
         self.suspend(caller);
-        leaves(TERMINATE_TASK, Kind::Ends)
+        leaves(Service::TerminateTask, Kind::Ends)
     }
 
     pub(super) fn chain_task(&mut self, caller: u8, task: u32) -> Answer
@@ -38,25 +35,25 @@ impl Kernel {
     {
         let status = self.chaining(caller, task);
         if status != E_OK {
-            return goes_on(CHAIN_TASK, status);
+            return goes_on(Service::ChainTask, status);
         }
         self.suspend(caller);
         let _activated = self.activate(task);
-        leaves(CHAIN_TASK, Kind::Ends)
+        leaves(Service::ChainTask, Kind::Ends)
     }
 
     pub(super) fn get_task_id(&mut self, caller: u8) -> Answer
         ensures { IsAnswer (get_task_id self.old caller) self.new result }
     {
-        tells(GET_TASK_ID, u32::from(caller))
+        tells(Service::GetTaskId, u32::from(caller))
     }
 
     pub(super) fn get_task_state(&mut self, task: u32) -> Answer
         ensures { IsAnswer (get_task_state self.old (slice_get self.old.states task)) self.new result }
     {
         match self.state_of(task) {
-            None => goes_on(GET_TASK_STATE, E_OS_ID),
-            Some(state) => tells(GET_TASK_STATE, state as u32),
+            None => goes_on(Service::GetTaskState, E_OS_ID),
+            Some(state) => tells(Service::GetTaskState, state as u32),
         }
     }
 
@@ -66,7 +63,7 @@ impl Kernel {
     {
         prove!(caller == self.running);
         self.stop(false);
-        leaves(SHUTDOWN_OS, Kind::Shutdown)
+        leaves(Service::ShutdownOs, Kind::Shutdown)
     }
 
     /// A suspended task becomes ready, with no event set; the status says whether there is one.

@@ -7,16 +7,16 @@ use Rattle.tm_kernel.proofs.kernel.Kernel.call.Goals as goal
 
 pub returns-clause-refused : goal.returns-clause-refused
 returns-clause-refused c = λ ne.
-    c.serve.ensures.kernel ∙ (refusal_changes_nothing c.args.self.now c.args.task c.args.service c.args.args
-    (λ e. ne (ap (λ (e : DataEntry). e.status) c.serve.ensures.entry ∙ e))).0
+    c.answer.ensures.kernel ∙ (refusal_changes_nothing c.args.self.now c.args.task c.args.service c.args.args
+    (λ e. ne (ap (λ (e : DataEntry). e.status) c.answer.ensures.entry ∙ e))).0
 
 pub returns-clause-users : goal.returns-clause-users
 returns-clause-users c =
     answered_users_hold c.args.self.now c.args.task c.args.service c.args.args _
-    (subst IsKernel c.self.view_is c.self.invariant.0) c.requires c.serve.ensures.entry
+    (subst IsKernel c.self.view_is c.self.invariant.0) c.requires c.answer.ensures.entry
 
 pub returns-clause-sound : goal.returns-clause-sound
 returns-clause-sound c =
     let six : length c.args.args ≡ 6 = omega arith in
-    subst IsKernel (sym c.serve.ensures.kernel) (call_keeps c.args.self.now c.args.task c.args.service c.args.args six
+    subst IsKernel (sym c.answer.ensures.kernel) (call_keeps c.args.self.now c.args.task c.args.service c.args.args six
     (subst IsKernel c.self.view_is c.self.invariant.0) c.requires)
