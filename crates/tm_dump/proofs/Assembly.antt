@@ -13,7 +13,7 @@ use Rattle.tm_marker.specs.declared.entries.DataEntry.{DataEntry}
 use Rattle.tm_marker.specs.declared.shape.Shape.{Shape}
 use Rattle.tm_ring.specs.Kept.{Kept, kept}
 use Rattle.tm_check.specs.Checkpoint.{KeptChecks, kept_checks}
-use Rattle.tm_log.specs.Window.{WindowView, window_from, no_task, log_of, checks_of}
+use Rattle.tm_log.specs.Window.{WindowView, window_from, nobody, log_of, checks_of}
 use Rattle.tm_log.specs.WellFormed.{IsSide, IsEntry, AreChained, IsTaskWell, IsWellFormed, IsOutput, IsTaskOrNobody, IsFilled, IsCheckpoint, ended_by}
 use Rattle.tm_dump.specs.declared.fault.DumpFault.{DumpFault}
 use Rattle.tm_dump.specs.declared.fault.DumpFault.TheVariants.{Magic, Version, Digest, OtherImage, Field, Extra}
@@ -41,7 +41,7 @@ below_of task total who at keeps same = elim (or_cases (not (who == task)) (nat_
   | inr below ↦ grind (arith, nat_tests, below)
 ]
 
-side_of : (w : WindowView) (who : ℕ) (at : Marker) → IsTaskOrNobody (length w.shape.words) who → IsMarkerOf (who == no_task) at →
+side_of : (w : WindowView) (who : ℕ) (at : Marker) → IsTaskOrNobody (length w.shape.words) who → IsMarkerOf (who == nobody) at →
     ((task : ℕ) → task < length w.shape.words → is_below_on task (checks_of w task).total who at ≡ true) → IsSide w who at
 side_of w who at there marker below = record {
   there = there;

@@ -16,7 +16,7 @@ use Rattle.tm_marker.specs.declared.entries.DataEntry.{DataEntry}
 use Rattle.tm_marker.specs.declared.entries.OutputEntry.{OutputEntry}
 use Rattle.tm_check.specs.Checkpoint.{Checkpoint}
 use Rattle.tm_image.specs.Steps.{◌>>=◌}
-use Rattle.tm_log.specs.Window.{no_task, zero_marker}
+use Rattle.tm_log.specs.Window.{nobody, zero_marker}
 use Rattle.tm_log.specs.WellFormed.{IsMarker, IsTaskOrNobody, GoesTo, IsOutput, IsCheckpoint}
 use Rattle.tm_dump.specs.Widths.{FitsMarker}
 use Rattle.tm_dump.specs.Cursor.{Cursor, Reading, bad, past, ruled, word_at, long_at, byte_in, word_in, long_in, words_in, byte_where, long_where}
@@ -142,8 +142,8 @@ or_true true = refl
 or_true false = refl
 
 there_rule : (tasks n : ℕ) → IsTaskOrNobody tasks n → is_task_or_nobody tasks n ≡ true
-there_rule tasks n (inl below) = let yes : nat_lt n tasks ≡ true = grind (arith, nat_tests, below) in ap (λ b. b || (n == no_task)) yes
-there_rule tasks n (inr none) = let yes : (n == no_task) ≡ true = grind (arith, nat_tests, none) in ap (λ b. nat_lt n tasks || b) yes ∙ or_true (nat_lt n tasks)
+there_rule tasks n (inr below) = let yes : nat_lt n tasks ≡ true = grind (arith, nat_tests, below) in ap (λ b. b || (n == nobody)) yes
+there_rule tasks n (inl none) = let yes : (n == nobody) ≡ true = grind (arith, nat_tests, none) in ap (λ b. nat_lt n tasks || b) yes ∙ or_true (nat_lt n tasks)
 
 kind_again : (kind : Kind) → kind_of (kind_number kind) ≡ kind
 kind_again Preempted = refl
@@ -161,7 +161,7 @@ number_below Fault other = refl
 number_below Shutdown other = refl
 number_below Idle other = absurd (other refl)
 
-kind_by : (b : Bool) (from : ℕ) (kind : Kind) → (from == no_task) ≡ b → (kind ≡ Idle → from ≡ no_task) → (from ≡ no_task → kind ≡ Idle) →
+kind_by : (b : Bool) (from : ℕ) (kind : Kind) → (from == nobody) ≡ b → (kind ≡ Idle → from ≡ nobody) → (from ≡ nobody → kind ≡ Idle) →
     (if b then kind_number kind == 5 else nat_lt (kind_number kind) 5) ≡ true
 kind_by true from kind is idle nobody = ap (λ k. kind_number k == 5) (nobody (grind (arith, nat_tests, is)))
 kind_by false from kind is idle nobody = number_below kind (λ same. let none = idle same in absurd (grind (arith, nat_tests, is, none)))
@@ -170,26 +170,26 @@ differ_rule : (a b : ℕ) → a ≢ b → not (a == b) ≡ true
 differ_rule a b other = ap not (ne_eqb a b other)
 
 goes_rule : (kind : Kind) (from to : ℕ) → GoesTo kind from to → goes_to kind from to ≡ true
-goes_rule Preempted from to goes = and_from (not (to == no_task)) (not (to == from)) (differ_rule to no_task goes.0) (differ_rule to from goes.1)
+goes_rule Preempted from to goes = and_from (not (to == nobody)) (not (to == from)) (differ_rule to nobody goes.0) (differ_rule to from goes.1)
 goes_rule Waits from to goes = differ_rule to from goes
 goes_rule Ends from to goes = refl
 goes_rule Fault from to goes = grind (arith, nat_tests, goes)
 goes_rule Shutdown from to goes = grind (arith, nat_tests, goes)
-goes_rule Idle from to goes = differ_rule to no_task goes
+goes_rule Idle from to goes = differ_rule to nobody goes
 
 -- a control entry that is read where it is written
 pub record GoodSwitch (tasks : ℕ) (before : Option Switch) (e : Switch) : Type 0 where
   pub from_there : IsTaskOrNobody tasks e.from
   pub follows_on : follows before e.from ≡ true
-  pub idle : e.kind ≡ Idle → e.from ≡ no_task
-  pub nobody : e.from ≡ no_task → e.kind ≡ Idle
+  pub idle : e.kind ≡ Idle → e.from ≡ nobody
+  pub nobody : e.from ≡ nobody → e.kind ≡ Idle
   pub from_marker : IsMarker e.from_at
-  pub from_zero : e.from ≡ no_task → e.from_at ≡ zero_marker
+  pub from_zero : e.from ≡ nobody → e.from_at ≡ zero_marker
   pub from_fits : FitsMarker e.from_at
   pub to_there : IsTaskOrNobody tasks e.to
   pub goes : GoesTo e.kind e.from e.to
   pub to_marker : IsMarker e.to_at
-  pub to_zero : e.to ≡ no_task → e.to_at ≡ zero_marker
+  pub to_zero : e.to ≡ nobody → e.to_at ≡ zero_marker
   pub to_fits : FitsMarker e.to_at
 
 pub four : (a b c d rest : List ℕ) → a ++ b ++ c ++ d ++ rest ≡ a ++ (b ++ (c ++ (d ++ rest)))
@@ -205,14 +205,14 @@ found_switch tasks before e at rest g here =
     let f = by_rule at (λ n. is_task_or_nobody tasks n && follows before n) (byte_in at) e.from r1
     (and_from (is_task_or_nobody tasks e.from) (follows before e.from) (there_rule tasks e.from g.from_there) g.follows_on)
     (found_byte at e.from r1 (here ∙ four (e.from ∷ kind_number e.kind ∷ []) (marker_bytes e.from_at) (e.to ∷ []) (marker_bytes e.to_at) rest)) in
-    let k = by_rule f.after (is_kind_from e.from) (byte_in f.after) (kind_number e.kind) r2 (kind_by (e.from == no_task) e.from e.kind refl g.idle g.nobody) (found_byte f.after (kind_number e.kind) r2 f.left) in
+    let k = by_rule f.after (is_kind_from e.from) (byte_in f.after) (kind_number e.kind) r2 (kind_by (e.from == nobody) e.from e.kind refl g.idle g.nobody) (found_byte f.after (kind_number e.kind) r2 f.left) in
     let k_is : kind_in e.from f.after ≡ Ok (e.kind, k.after) = then_is (byte_where (is_kind_from e.from) f.after) as_kind (kind_number e.kind, k.after) (Ok (e.kind, k.after)) k.is
     (ap (λ kind. Ok (kind, k.after)) (kind_again e.kind)) in
-    let fm = found_marker (e.from == no_task) e.from_at k.after r3 g.from_marker g.from_fits (λ none. g.from_zero (grind (arith, nat_tests, none))) k.left in
+    let fm = found_marker (e.from == nobody) e.from_at k.after r3 g.from_marker g.from_fits (λ none. g.from_zero (grind (arith, nat_tests, none))) k.left in
     let t = by_rule fm.after (λ n. is_task_or_nobody tasks n && goes_to e.kind e.from n) (byte_in fm.after) e.to r4
     (and_from (is_task_or_nobody tasks e.to) (goes_to e.kind e.from e.to) (there_rule tasks e.to g.to_there) (goes_rule e.kind e.from e.to g.goes))
     (found_byte fm.after e.to r4 fm.left) in
-    let tm = found_marker (e.to == no_task) e.to_at t.after rest g.to_marker g.to_fits (λ none. g.to_zero (grind (arith, nat_tests, none))) t.left in
+    let tm = found_marker (e.to == nobody) e.to_at t.after rest g.to_marker g.to_fits (λ none. g.to_zero (grind (arith, nat_tests, none))) t.left in
     record {
       after = tm.after;
       is = then_is _ _ (e.from, f.after) (Ok (e, tm.after)) f.is (then_is _ _ (e.kind, k.after) (Ok (e, tm.after)) k_is (then_is _ _ (e.from_at, fm.after) (Ok (e, tm.after)) fm.is

@@ -13,7 +13,7 @@ use Rattle.tm_marker.specs.declared.entries.DataEntry.{DataEntry}
 use Rattle.tm_marker.specs.declared.entries.OutputEntry.{OutputEntry}
 use Rattle.tm_check.specs.Checkpoint.{Checkpoint, checkpoint}
 use Rattle.tm_image.specs.Steps.{◌>>=◌}
-use Rattle.tm_log.specs.Window.{no_task, zero_marker}
+use Rattle.tm_log.specs.Window.{nobody, zero_marker}
 use Rattle.tm_log.specs.WellFormed.{IsMarker, IsTaskOrNobody, GoesTo, IsOutput, IsCheckpoint}
 use Rattle.tm_dump.specs.Cursor.{Cursor, byte_where, long_where}
 use Rattle.tm_dump.specs.Fields.{word_bytes, long_bytes, marker_bytes, kind_number, switch_bytes, output_bytes, entry_bytes, core_words, checkpoint_bytes}
@@ -96,10 +96,10 @@ idle_from (suc (suc (suc (suc (suc n))))) idle = omega arith
 
 -- the kind is idle exactly where nobody ran
 pub record IsKindFrom (from : ℕ) (kind : Kind) : Type 0 where
-  pub idle : kind ≡ Idle → from ≡ no_task
-  pub nobody : from ≡ no_task → kind ≡ Idle
+  pub idle : kind ≡ Idle → from ≡ nobody
+  pub nobody : from ≡ nobody → kind ≡ Idle
 
-kind_kept : (b : Bool) (from n : ℕ) → (from == no_task) ≡ b → (if b then n == 5 else nat_lt n 5) ≡ true → IsKindFrom from (kind_of n) × (n < 6)
+kind_kept : (b : Bool) (from n : ℕ) → (from == nobody) ≡ b → (if b then n == 5 else nat_lt n 5) ≡ true → IsKindFrom from (kind_of n) × (n < 6)
 kind_kept true from n is keeps =
     let five : n ≡ 5 = grind (arith, nat_tests, keeps) in
     (record { idle = λ idle. grind (arith, nat_tests, is); nobody = λ none. ap kind_of five }, omega arith)
@@ -112,38 +112,38 @@ only_kind from at r e =
     let Goal : Type 0 = Only (λ kind. kind_number kind ∷ []) (IsKindFrom from) at r in
     bound Goal (byte_where (is_kind_from from) at) as_kind r e (λ byte is e1.
     let b = only_byte (is_kind_from from) at byte is in
-    let k = kind_kept (from == no_task) from byte.0 refl b.keeps in
+    let k = kind_kept (from == nobody) from byte.0 refl b.keeps in
     subst (Only (λ kind. kind_number kind ∷ []) (IsKindFrom from) at) (ok_is (kind_of byte.0, byte.1) r e1) (record {
       took = subst (λ n. Took at byte.1 (n ∷ [])) (sym (number_again byte.0 k.1)) b.took;
       keeps = k.0;
     }))
 
 there_of : (tasks n : ℕ) → is_task_or_nobody tasks n ≡ true → IsTaskOrNobody tasks n
-there_of tasks n is = elim (or_cases (nat_lt n tasks) (n == no_task) is) [
-  | inl below ↦ inl (grind (arith, nat_tests, below))
-  | inr none ↦ inr (grind (arith, nat_tests, none))
+there_of tasks n is = elim (or_cases (nat_lt n tasks) (n == nobody) is) [
+  | inl below ↦ inr (grind (arith, nat_tests, below))
+  | inr none ↦ inl (grind (arith, nat_tests, none))
 ]
 
 differ : (a b : ℕ) → not (a == b) ≡ true → a ≢ b
 differ a b is same = absurd (grind (arith, nat_tests, is, same))
 
 goes_of : (kind : Kind) (from to : ℕ) → goes_to kind from to ≡ true → GoesTo kind from to
-goes_of Preempted from to is = let ps = and_parts (not (to == no_task)) (not (to == from)) is in (differ to no_task ps.0, differ to from ps.1)
+goes_of Preempted from to is = let ps = and_parts (not (to == nobody)) (not (to == from)) is in (differ to nobody ps.0, differ to from ps.1)
 goes_of Waits from to is = differ to from is
 goes_of Ends from to is = tt
 goes_of Fault from to is = grind (arith, nat_tests, is)
 goes_of Shutdown from to is = grind (arith, nat_tests, is)
-goes_of Idle from to is = differ to no_task is
+goes_of Idle from to is = differ to nobody is
 
 -- what is read of a control entry
 pub record IsSwitch (tasks : ℕ) (before : Option Switch) (e : Switch) : Type 0 where
   pub from_there : IsTaskOrNobody tasks e.from
   pub follows_on : follows before e.from ≡ true
   pub kind : IsKindFrom e.from e.kind
-  pub from_marker : IsMarkerOf (e.from == no_task) e.from_at
+  pub from_marker : IsMarkerOf (e.from == nobody) e.from_at
   pub to_there : IsTaskOrNobody tasks e.to
   pub goes : GoesTo e.kind e.from e.to
-  pub to_marker : IsMarkerOf (e.to == no_task) e.to_at
+  pub to_marker : IsMarkerOf (e.to == nobody) e.to_at
 
 pub only_switch : (tasks : ℕ) (before : Option Switch) (at : Cursor) (r : Switch × Cursor) → switch_in tasks before at ≡ Ok r → Only switch_bytes (IsSwitch tasks before) at r
 unfolding switch_bytes
@@ -157,10 +157,10 @@ only_switch tasks before at r e =
     let f = only_byte (λ n. is_task_or_nobody tasks n && follows before n) at from is in
     let fs = and_parts (is_task_or_nobody tasks from.0) (follows before from.0) f.keeps in
     let k = only_kind from.0 from.1 kind is2 in
-    let fm = only_marker (from.0 == no_task) kind.1 from_at is3 in
+    let fm = only_marker (from.0 == nobody) kind.1 from_at is3 in
     let t = only_byte (λ n. is_task_or_nobody tasks n && goes_to kind.0 from.0 n) from_at.1 to is4 in
     let ts = and_parts (is_task_or_nobody tasks to.0) (goes_to kind.0 from.0 to.0) t.keeps in
-    let tm = only_marker (to.0 == no_task) to.1 to_at is5 in
+    let tm = only_marker (to.0 == nobody) to.1 to_at is5 in
     let entry : Switch = record { from = from.0; kind = kind.0; from_at = from_at.0; to = to.0; to_at = to_at.0 } in
     let two = took_both at from.1 kind.1 (from.0 ∷ []) (kind_number kind.0 ∷ []) f.took k.took in
     let three = took_both at kind.1 from_at.1 (from.0 ∷ kind_number kind.0 ∷ []) (marker_bytes from_at.0) two fm.took in

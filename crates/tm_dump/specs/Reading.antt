@@ -16,7 +16,7 @@ use Rattle.tm_marker.specs.declared.tail.Tail.{Tail}
 use Rattle.tm_ring.specs.Kept.{Kept, kept}
 use Rattle.tm_check.specs.Checkpoint.{Checkpoint, KeptChecks, checkpoint, kept_checks}
 use Rattle.tm_image.specs.Steps.{◌>>=◌}
-use Rattle.tm_log.specs.Window.{WindowView, window_from, no_task}
+use Rattle.tm_log.specs.Window.{WindowView, window_from, nobody}
 use Rattle.tm_log.specs.WellFormed.{ended_by, runs_last, ended_last}
 use Rattle.tm_dump.specs.declared.fault.DumpFault.{DumpFault}
 use Rattle.tm_dump.specs.declared.fault.DumpFault.TheVariants.{Magic, Version, Digest, OtherImage, Field, Extra}
@@ -50,7 +50,7 @@ marker_in nobody at = do
 
 -- a task of so many, or nobody
 abbrev pub is_task_or_nobody : ℕ → ℕ → Bool
-is_task_or_nobody tasks n = nat_lt n tasks || n == no_task
+is_task_or_nobody tasks n = nat_lt n tasks || n == nobody
 
 -- whom an entry leaves: the task, or nobody, to whom the entry before went, which did not end the run
 abbrev pub follows : Option Switch → ℕ → Bool
@@ -59,7 +59,7 @@ follows (Some before) n = n == before.to && ended_by before.kind == 0
 
 -- the kind is idle exactly where nobody ran
 abbrev pub is_kind_from : ℕ → ℕ → Bool
-is_kind_from from n = if from == no_task then n == 5 else nat_lt n 5
+is_kind_from from n = if from == nobody then n == 5 else nat_lt n 5
 
 -- the kind of a number
 abbrev pub kind_of : ℕ → Kind
@@ -72,12 +72,12 @@ kind_of n =
 
 -- whom a task, or nobody, leaves the processor to, by the kind
 abbrev pub goes_to : Kind → ℕ → ℕ → Bool
-goes_to Preempted from to = not (to == no_task) && not (to == from)
+goes_to Preempted from to = not (to == nobody) && not (to == from)
 goes_to Waits from to = not (to == from)
 goes_to Ends from to = true
-goes_to Fault from to = to == no_task
-goes_to Shutdown from to = to == no_task
-goes_to Idle from to = not (to == no_task)
+goes_to Fault from to = to == nobody
+goes_to Shutdown from to = to == nobody
+goes_to Idle from to = not (to == nobody)
 
 -- whom an entry leaves
 abbrev pub from_in : ℕ → Option Switch → Cursor → Reading ℕ
@@ -100,9 +100,9 @@ abbrev pub switch_in : ℕ → Option Switch → Cursor → Reading Switch
 switch_in tasks before at = do
   from ← from_in tasks before at
   kind ← kind_in from.0 from.1
-  from_at ← marker_in (from.0 == no_task) kind.1
+  from_at ← marker_in (from.0 == nobody) kind.1
   to ← to_in tasks kind.0 from.0 from_at.1
-  to_at ← marker_in (to.0 == no_task) to.1
+  to_at ← marker_in (to.0 == nobody) to.1
   Ok (record { from = from.0; kind = kind.0; from_at = from_at.0; to = to.0; to_at = to_at.0 }, to_at.1)
 
 -- a number of one byte below a limit

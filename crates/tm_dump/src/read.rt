@@ -1,6 +1,6 @@
 //! Reading a dump.
 
-ghost use Rattle.std.specs.Prelude.{◌≡◌, ◌+◌, ◌≤◌, length, Ok, IfOk};
+ghost use Rattle.std.specs.Prelude.{◌≡◌, ◌+◌, ◌≤◌, length, Ok};
 ghost use Rattle.tm_marker.specs.Shape.{IsShape};
 ghost use Rattle.tm_image.specs.Image.{shape_of};
 ghost use Rattle.tm_dump.specs.Dump.{closing_digest};
@@ -19,24 +19,13 @@ use crate::body::MAGIC;
 use crate::write::closing_digest;
 use cursor::Cursor;
 use rings::read_ring;
-use std::alloc::{AllocError, Global};
+use std::alloc::Global;
 use tail::{exactly, read_tail};
 use tasks::read_tasks;
 use tm_image::Image;
 use tm_log::Window;
-use tm_marker::{Items, OutputEntry, Shape, Switch};
+use tm_marker::{OutputEntry, Shape, Switch};
 use tm_ring::Ring;
-
-/// A copy of a shape.
-fn copied(alloc: Global, shape: &Shape) -> Result<Shape, AllocError>
-    ensures { IfOk result (λ copy. copy ≡ shape.now) }
-{
-    Ok(Shape {
-        image: shape.image,
-        caps: shape.caps,
-        words: Items::from(Vec::from_slice(alloc, shape.words.as_slice())?),
-    })
-}
 
 /// All fields behind the image's digest.
 fn read_fields(alloc: Global, shape: &Shape, at: &mut Cursor<'_>) -> Result<Window, DumpFault>
@@ -48,7 +37,7 @@ fn read_fields(alloc: Global, shape: &Shape, at: &mut Cursor<'_>) -> Result<Wind
     let outputs: Ring<OutputEntry> = read_ring(alloc, tasks, shape.caps.outputs, at)?;
     let lists = read_tasks(alloc, shape, &control, at)?;
     let tail = read_tail(alloc, &control, lists.checks.as_slice(), at)?;
-    let shape = copied(alloc, shape)?;
+    let shape = shape.copied(alloc)?;
     Ok(Window::from_parts(shape, control, outputs, lists.logs, lists.checks, tail))
 }
 

@@ -9,9 +9,13 @@ use Rattle.tm_marker.specs.declared.entries.Switch.{Switch}
 use Rattle.tm_marker.specs.declared.entries.DataEntry.{DataEntry}
 use Rattle.tm_marker.specs.declared.entries.OutputEntry.{OutputEntry}
 use Rattle.tm_marker.specs.declared.shape.Shape.{Shape}
+use Rattle.tm_marker.specs.declared.entries.TheConstants.{PORTS}
+use Rattle.tm_marker.specs.declared.tail.TheConstants.{GOES_ON, RUNNING, WAITING}
+use Rattle.tm_marker.specs.Tail.{nobody, zero_marker}
+pub use Rattle.tm_marker.specs.Tail.{IsTaskOrNobody, ended_by}
 use Rattle.tm_ring.specs.Kept.{Kept}
 use Rattle.tm_check.specs.Checkpoint.{Checkpoint, KeptChecks}
-use Rattle.tm_log.specs.Window.{WindowView, no_task, zero_marker, log_of, checks_of}
+use Rattle.tm_log.specs.Window.{WindowView, log_of, checks_of}
 
 -- a buffer keeps all that there was, or as many as its capacity
 pub record IsFilled (number total cap : ℕ) : Type 0 where
@@ -23,48 +27,35 @@ pub record IsMarker (at : Marker) : Type 0 where
   pub count : at.count < EPOCH_LENGTH
   pub aligned : at.pc % 4 ≡ 0
 
--- a task of so many, or nobody
-abbrev pub IsTaskOrNobody : ℕ → ℕ → Type 0
-IsTaskOrNobody tasks task = (task < tasks) ⊎ (task ≡ no_task)
-
 -- one side of a control entry: a task and its marker, or nobody and the zero marker; the task has
 -- come no further than its checkpoints
 pub record IsSide (w : WindowView) (task : ℕ) (at : Marker) : Type 0 where
   pub there : IsTaskOrNobody (length w.shape.words) task
   pub marker : IsMarker at
-  pub nobody : task ≡ no_task → at ≡ zero_marker
+  pub nobody : task ≡ nobody → at ≡ zero_marker
   pub reached : task < length w.shape.words → at.epoch < (checks_of w task).total
 
 -- whom a task, or nobody, leaves the processor to, by the kind
 abbrev pub GoesTo : Kind → ℕ → ℕ → Type 0
-GoesTo Preempted from to = (to ≢ no_task) × (to ≢ from)
+GoesTo Preempted from to = (to ≢ nobody) × (to ≢ from)
 GoesTo Waits from to = to ≢ from
 GoesTo Ends from to = Unit {0}
-GoesTo Fault from to = to ≡ no_task
-GoesTo Shutdown from to = to ≡ no_task
-GoesTo Idle from to = to ≢ no_task
+GoesTo Fault from to = to ≡ nobody
+GoesTo Shutdown from to = to ≡ nobody
+GoesTo Idle from to = to ≢ nobody
 
 -- a control entry by itself; its kind is idle exactly where nobody ran
 pub record IsEntry (w : WindowView) (entry : Switch) : Type 0 where
   pub from : IsSide w entry.from entry.from_at
   pub to : IsSide w entry.to entry.to_at
-  pub idle : entry.kind ≡ Idle → entry.from ≡ no_task
-  pub nobody : entry.from ≡ no_task → entry.kind ≡ Idle
+  pub idle : entry.kind ≡ Idle → entry.from ≡ nobody
+  pub nobody : entry.from ≡ nobody → entry.kind ≡ Idle
   pub goes : GoesTo entry.kind entry.from entry.to
-
--- how the run stands after an entry: 0 it goes on, 1 after a fault, 2 after a shutdown
-abbrev pub ended_by : Kind → ℕ
-ended_by Fault = 1
-ended_by Shutdown = 2
-ended_by Preempted = 0
-ended_by Waits = 0
-ended_by Ends = 0
-ended_by Idle = 0
 
 -- an entry follows another: it leaves whom that one went to, and no entry follows the end of the run
 pub record IsNext (before after : Switch) : Type 0 where
   pub from : after.from ≡ before.to
-  pub goes_on : ended_by before.kind ≡ 0
+  pub goes_on : ended_by before.kind ≡ GOES_ON
 
 -- each entry follows the one before it
 abbrev pub AreChained : List Switch → Type 0
@@ -74,20 +65,20 @@ AreChained (before ∷ after ∷ rest) = IsNext before after × AreChained (afte
 
 -- who runs after the last of the entries
 abbrev pub runs_last : List Switch → ℕ
-runs_last [] = no_task
+runs_last [] = nobody
 runs_last (entry ∷ []) = entry.to
 runs_last (entry ∷ after ∷ rest) = runs_last (after ∷ rest)
 
 -- whether the run has ended after the last of the entries
 abbrev pub ended_last : List Switch → ℕ
-ended_last [] = 0
+ended_last [] = GOES_ON
 ended_last (entry ∷ []) = ended_by entry.kind
 ended_last (entry ∷ after ∷ rest) = ended_last (after ∷ rest)
 
--- an output of one of so many tasks, at one of the four ports
+-- an output of one of so many tasks, at one of the ports
 pub record IsOutput (tasks : ℕ) (entry : OutputEntry) : Type 0 where
   pub task : entry.task < tasks
-  pub port : entry.port < 4
+  pub port : entry.port < PORTS
 
 -- a checkpoint: a pc that is a multiple of 4, and numbers no greater than the totals
 pub record IsCheckpoint (entries switches : ℕ) (c : Checkpoint) : Type 0 where
@@ -96,7 +87,7 @@ pub record IsCheckpoint (entries switches : ℕ) (c : Checkpoint) : Type 0 where
   pub control_number : c.control_number ≤ switches
 
 -- a task's data entries and checkpoints, and its marker and state at the last moment: it stands in the
--- epoch of its last checkpoint, and its state is 2 exactly where it is the running task
+-- epoch of its last checkpoint, and its state is running exactly where it is the running task
 pub record IsTaskWell (w : WindowView) (task : ℕ) : Type 0 where
   pub log : IsFilled (length (log_of w task).items) (log_of w task).total (log_of w task).cap
   pub statuses : All (λ (entry : DataEntry). entry.status ≤ 8) (log_of w task).items
@@ -109,9 +100,9 @@ pub record IsTaskWell (w : WindowView) (task : ℕ) : Type 0 where
   pub epoch : at.epoch ≡ (checks_of w task).total - 1
   pub state : ℕ
   pub state_is : slice_get w.tail.state task ≡ Some state
-  pub state_number : state ≤ 3
-  pub runs : state ≡ 2 → w.tail.running ≡ task
-  pub running : w.tail.running ≡ task → state ≡ 2
+  pub state_number : state ≤ WAITING
+  pub runs : state ≡ RUNNING → w.tail.running ≡ task
+  pub running : w.tail.running ≡ task → state ≡ RUNNING
 
 -- a window of this shape that a run could have left: every buffer is filled, every entry, output and
 -- checkpoint is one of the image's tasks, each control entry follows the one before, and the tail is

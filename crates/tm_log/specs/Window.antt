@@ -7,7 +7,9 @@ use Rattle.tm_marker.specs.declared.entries.OutputEntry.{OutputEntry}
 use Rattle.tm_marker.specs.declared.shape.Caps.{Caps}
 use Rattle.tm_marker.specs.declared.shape.Shape.{Shape}
 use Rattle.tm_marker.specs.declared.tail.Tail.{Tail}
+use Rattle.tm_marker.specs.declared.tail.TheConstants.{GOES_ON, SUSPENDED}
 use Rattle.tm_marker.specs.Shape.{IsShape}
+pub use Rattle.tm_marker.specs.Tail.{nobody, zero_marker}
 use Rattle.tm_ring.specs.Kept.{Kept, kept, pushed}
 use Rattle.tm_check.specs.Checkpoint.{Checkpoint, KeptChecks, kept_checks, pushed_check}
 
@@ -26,17 +28,9 @@ abbrev pub window_from : Shape → Kept Switch → Kept OutputEntry → List (Ke
 window_from shape control outputs logs checks tail =
     record { shape = shape; control = control; outputs = outputs; logs = logs; checks = checks; tail = tail }
 
--- the number that stands for no task
-abbrev pub no_task : ℕ
-no_task = 255
-
--- the marker of a task that did nothing
-abbrev pub zero_marker : Marker
-zero_marker = record { epoch = 0; count = 0; pc = 0 }
-
--- nobody runs, and every marker and state is 0
+-- nobody runs, the run goes on, and every task is suspended at the zero marker
 abbrev pub still_tail : ℕ → Tail
-still_tail tasks = record { running = no_task; ended = 0; at = replicate tasks zero_marker; state = replicate tasks 0 }
+still_tail tasks = record { running = nobody; ended = GOES_ON; at = replicate tasks zero_marker; state = replicate tasks SUSPENDED }
 
 -- the window of a run of which nothing was kept yet
 abbrev pub empty_window : Shape → WindowView

@@ -9,19 +9,8 @@ ghost use Rattle.tm_log.specs.Caps.{HaveOneCap, KeepOneCap};
 
 use std::alloc::{AllocError, Global};
 use tm_check::Checks;
-use tm_marker::{Caps, DataEntry, Items, Marker, NOBODY, Shape, Tail};
+use tm_marker::{Caps, DataEntry, GOES_ON, Items, Marker, NOBODY, SUSPENDED, Tail};
 use tm_ring::Ring;
-
-/// A copy of a shape.
-pub(crate) fn copied(alloc: Global, shape: &Shape) -> Result<Shape, AllocError>
-    ensures { IfOk result (λ copy. copy ≡ shape.now) }
-{
-    Ok(Shape {
-        image: shape.image,
-        caps: shape.caps,
-        words: Items::from(Vec::from_slice(alloc, shape.words.as_slice())?),
-    })
-}
 
 /// So many empty rings of data entries.
 pub(crate) fn empty_logs(
@@ -56,15 +45,15 @@ pub(crate) fn empty_checks(
     Ok(checks)
 }
 
-/// A tail of so many tasks in which nobody runs and all is 0.
+/// A tail of so many tasks, all suspended, in which nobody runs and the run goes on.
 pub(crate) fn new_tail(alloc: Global, tasks: usize) -> Result<Tail, AllocError>
     ensures { IfOk result (λ tail. tail ≡ still_tail tasks) }
 {
     Ok(Tail {
         running: NOBODY,
-        ended: 0,
+        ended: GOES_ON,
         at: Items::from(vec![in alloc; Marker::ZERO; tasks]?),
-        state: Items::from(vec![in alloc; 0; tasks]?),
+        state: Items::from(vec![in alloc; SUSPENDED; tasks]?),
     })
 }
 

@@ -7,7 +7,7 @@ ghost use Rattle.tm_check.specs.Checkpoint.{Checkpoint, checkpoint, HoldsChecks}
 ghost use Rattle.tm_log.specs.Window.{window_from, empty_window, log_of, checks_of, with_control, with_output, with_entry, with_check, with_running, with_task, dump_bound, IsWindow};
 
 use crate::tasks::{
-    bound_of_all, copied, copy_checks, copy_logs, copy_tail, empty_checks, empty_logs, new_tail,
+    bound_of_all, copy_checks, copy_logs, copy_tail, empty_checks, empty_logs, new_tail,
 };
 use std::alloc::{AllocError, Global};
 use std::marker::Model;
@@ -50,7 +50,7 @@ impl Window {
             logs: empty_logs(alloc, tasks, shape.caps.logs)?,
             checks: empty_checks(alloc, shape.words.as_slice(), shape.caps.checks)?,
             tail: new_tail(alloc, tasks)?,
-            shape: copied(alloc, shape)?,
+            shape: shape.copied(alloc)?,
         })
     }
 

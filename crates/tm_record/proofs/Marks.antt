@@ -5,7 +5,7 @@ use Rattle.tm_marker.specs.declared.marker.Marker.{Marker}
 use Rattle.tm_marker.specs.declared.marker.TheConstants.{EPOCH_LENGTH}
 use Rattle.tm_kernel.specs.State.{nobody}
 use Rattle.tm_image.specs.Image.{ImageView, IsImage}
-use Rattle.tm_log.specs.Window.{no_task, zero_marker}
+use Rattle.tm_log.specs.Window.{zero_marker}
 use Rattle.tm_log.specs.WellFormed.{IsMarker, IsTaskOrNobody}
 use Rattle.tm_system.specs.History.{Moment, History}
 use Rattle.tm_system.specs.Run.{running_at}
@@ -44,15 +44,15 @@ tasks_few image i = omega (arith, i.loads, i.spec.few_tasks)
 pub runs_there : (image : ImageView) (h : History) → IsImage image → IsGood image h → IsTaskOrNobody (length image.loads) (running_at image h)
 runs_there image h i g =
     elim (cases_eq (running_at image h) nobody) [
-      | inl e ↦ inr e
-      | inr ne ↦ inl (running_in image h i g.good.sound ne)
+      | inl e ↦ inl e
+      | inr ne ↦ inr (running_in image h i g.good.sound ne)
     ]
 
 -- a task, or nobody, at a marker that it had in the run
 pub record IsSideAt (image : ImageView) (h : History) (task : ℕ) (at : Marker) : Type 0 where
   pub there : IsTaskOrNobody (length image.loads) task
   pub marker : IsMarker at
-  pub zero : task ≡ no_task → at ≡ zero_marker
+  pub zero : task ≡ nobody → at ≡ zero_marker
   pub reached : task < length image.loads → at.epoch ≤ epochs task h
 
 -- the marker of a task of the image
@@ -63,19 +63,19 @@ pub side_at : (image : ImageView) (h : History) (task : ℕ) → IsImage image �
     IsSideAt image h task (marker_at image h task)
 side_at image h task i g there =
     elim there [
-      | inl below ↦
+      | inr below ↦
           let other : task ≢ nobody = λ e. omega (arith, e, below, tasks_few image i) in
           let marker : marker_at image h task ≡ marker_of (standing_at image h task) = rw (ne_eqb task nobody other) refl in
           subst (IsSideAt image h task) (sym marker) (record {
-            there = inl below;
+            there = inr below;
             marker = task_marker image h task g below;
             zero = λ e. absurd (other e);
             reached = λ _. omega arith;
           })
-      | inr e ↦
+      | inl e ↦
           let marker : marker_at image h task ≡ zero_marker = rw (eq-eqb task nobody e) refl in
           subst (IsSideAt image h task) (sym marker) (record {
-            there = inr e;
+            there = inl e;
             marker = record { count = omega arith; aligned = refl };
             zero = λ _. refl;
             reached = λ _. omega arith;

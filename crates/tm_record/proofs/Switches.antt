@@ -7,7 +7,6 @@ use Rattle.tm_marker.specs.declared.entries.Kind.TheVariants.{Preempted, Waits, 
 use Rattle.tm_marker.specs.declared.entries.Switch.{Switch}
 use Rattle.tm_kernel.specs.State.{nobody}
 use Rattle.tm_image.specs.Image.{ImageView, IsImage}
-use Rattle.tm_log.specs.Window.{no_task}
 use Rattle.tm_log.specs.WellFormed.{GoesTo, ended_by, AreChained, runs_last, ended_last}
 use Rattle.tm_system.specs.History.{Deed, Arrives, Steps, Answers, Faulted, Moment, History}
 use Rattle.tm_system.specs.Run.{now, running_at}
@@ -73,8 +72,8 @@ led image h m i f = led_by image h m i f.goes m.deed f.did
 
 -- the kind and the two sides of an entry, and how the run stands after it
 pub record IsGone (from : ℕ) (leaves : Option Kind) (to : ℕ) : Type 0 where
-  pub idle : kind_by from leaves ≡ Idle → from ≡ no_task
-  pub nobody : from ≡ no_task → kind_by from leaves ≡ Idle
+  pub idle : kind_by from leaves ≡ Idle → from ≡ nobody
+  pub nobody : from ≡ nobody → kind_by from leaves ≡ Idle
   pub goes : GoesTo (kind_by from leaves) from to
   pub ended : ended_by (kind_by from leaves) ≡ left_ended leaves
 
@@ -142,8 +141,8 @@ stays_put from None to switch = (go (from == to) refl switch, refl)
 pub record IsEntryAt (image : ImageView) (h : History) (entry : Switch) : Type 0 where
   pub from : IsSideAt image h entry.from entry.from_at
   pub to : IsSideAt image h entry.to entry.to_at
-  pub idle : entry.kind ≡ Idle → entry.from ≡ no_task
-  pub nobody : entry.from ≡ no_task → entry.kind ≡ Idle
+  pub idle : entry.kind ≡ Idle → entry.from ≡ nobody
+  pub nobody : entry.from ≡ nobody → entry.kind ≡ Idle
   pub goes : GoesTo entry.kind entry.from entry.to
 
 entry_more : (image : ImageView) (m : Moment) (h : History) (entry : Switch) → IsEntryAt image h entry → IsEntryAt image (m ∷ h) entry

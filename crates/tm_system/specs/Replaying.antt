@@ -7,7 +7,7 @@ use Rattle.tm_marker.specs.declared.entries.OutputEntry.{OutputEntry}
 use Rattle.tm_marker.specs.declared.entries.Switch.{Switch}
 use Rattle.tm_ring.specs.Kept.{Kept, item_of}
 use Rattle.tm_check.specs.Checkpoint.{Checkpoint, checkpoint, check_of}
-use Rattle.tm_log.specs.Window.{WindowView, no_task, log_of, checks_of}
+use Rattle.tm_log.specs.Window.{WindowView, nobody, log_of, checks_of}
 use Rattle.tm_log.specs.Points.{items_from, entries_from, tail_marker, marker_at_point}
 use Rattle.tm_task.specs.Place.{start_place}
 use Rattle.tm_image.specs.Image.{ImageView, entry_of, text_of}
@@ -80,7 +80,7 @@ replayed_tasks image w point = all_below (length w.shape.words) (replayed_task i
 -- who runs at a point: nobody at boot, else whom the point's own control entry goes to
 abbrev pub runs_at_point : Kept Switch → ℕ → ℕ
 runs_at_point control point =
-    if point == 0 then no_task else unwrap_or (option_map (λ entry. entry.to) (item_of control (point - 1))) no_task
+    if point == 0 then nobody else unwrap_or (option_map (λ entry. entry.to) (item_of control (point - 1))) nobody
 
 -- what a window tells from a point, by what the replays of its tasks tell
 abbrev pub story_of : WindowView → ℕ → List Tracing → Story

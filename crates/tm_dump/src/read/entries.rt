@@ -1,7 +1,7 @@
 //! One entry of a dump at a time, each with the rules of its fields.
 
 ghost use Rattle.std.specs.Prelude.{◌≡◌, ◌==◌, Option};
-ghost use Rattle.tm_log.specs.Window.{no_task};
+ghost use Rattle.tm_log.specs.Window.{nobody};
 ghost use Rattle.tm_dump.specs.Cursor.{Gives};
 ghost use Rattle.tm_log.specs.WellFormed.{ended_by};
 ghost use Rattle.tm_dump.specs.Reading.{is_zero_of, count_in, pc_in, instant_in, marker_in, is_task_or_nobody, follows, from_in, kind_in, kind_of, goes_to, to_in, switch_in, byte_below, output_in, status_in, data_in};
