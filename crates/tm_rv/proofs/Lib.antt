@@ -3,3 +3,4 @@ pub mod Apart
 pub mod Rows
 pub mod Encoded
 pub mod Decoded
+pub mod Kept

@@ -4,3 +4,4 @@ pub mod ByFields
 pub mod Names
 pub mod Laws
 pub mod Word
+pub mod Code

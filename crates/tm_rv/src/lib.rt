@@ -13,6 +13,7 @@
 #![tactic(auto)]
 
 mod bits;
+mod code;
 mod decoder;
 mod encoder;
 mod formats;
@@ -20,6 +21,7 @@ mod instr;
 mod names;
 mod table;
 
+pub use code::Code;
 pub use decoder::{decode, operation};
 pub use encoder::encode;
 pub use formats::{

@@ -2,3 +2,4 @@ pub mod Bytes
 pub mod Following
 pub mod Rising
 pub mod Running
+pub mod Kept

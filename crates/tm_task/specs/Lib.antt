@@ -2,9 +2,11 @@ pub mod Memory
 pub mod Cause
 pub mod Exec
 pub mod Follows
+pub mod Parts
 pub mod Does
 pub mod Standing
 pub mod Stepped
 pub mod Place
 pub mod PlaceLaws
 pub mod RunsOn
+pub mod Turns

@@ -4,7 +4,7 @@ ghost use Rattle.std.specs.Prelude.{◌≡◌, ◌+◌, ◌*◌, ◌≤◌, leng
 ghost use Rattle.tm_task.specs.Standing.{boot_registers, begins_epoch, is_end, reply};
 
 use crate::DATA_START;
-use crate::perform::{advance, put};
+use crate::registers::put;
 use tm_marker::{Body, DataEntry};
 
 /// The services TerminateTask, ChainTask and WaitEvent.
@@ -55,5 +55,5 @@ pub(crate) fn reply(body: &mut Body, start: u32, entry: &DataEntry)
     put(body, 12, entry.words[1]);
     put(body, 13, entry.words[2]);
     put(body, 14, entry.words[3]);
-    advance(body);
+    body.pc = body.pc.wrapping_add(4);
 }

@@ -1,38 +1,38 @@
-//! The instruction at a body's program counter, executed in place.
+//! The instruction at a program counter, executed in place.
 
 ghost use Rattle.std.specs.Prelude.{◌≡◌};
 ghost use Rattle.tm_task.specs.Exec.{exec};
+ghost use Rattle.tm_task.specs.Parts.{body_at};
 ghost use Rattle.tm_task.specs.Does.{Does};
 
 use crate::Cause;
 use crate::perform::perform;
-use tm_marker::Body;
-use tm_rv::operation;
+use crate::registers::Registers;
+use tm_marker::Items;
+use tm_rv::Code;
 
 /// What an instruction did to a body.
 #[derive(Clone, Copy)]
 pub(crate) enum Executed {
-    /// The body went on; `back` tells of a transfer to a target at or below its own address.
-    Went { back: bool },
+    /// The body went on to this program counter; `back` tells of a transfer to a target at or below
+    /// the instruction's own address.
+    Went { pc: u32, back: bool },
     /// It calls the service of this number; the body is as before.
     Called(u8),
     /// It can't be executed; the body is as before.
     Faulted(Cause),
 }
 
-/// Executes the instruction at a body's program counter.
-#[inline]
+/// Executes the instruction at a program counter.
 #[tactic(auto, unfolding(crate::specs::Exec::exec))]
-pub(crate) fn execute(body: &mut Body, text: &[u32]) -> Executed
-    ensures { Does (exec text.now body.old) body.old body.new result }
+#[inline(always)]
+pub(crate) fn execute(code: &Code, pc: u32, regs: &mut Registers, words: &mut Items<u32>) -> Executed
+    ensures { Does (exec code.now (body_at pc regs.old words.old)) (body_at pc regs.old words.old) (body_at pc regs.new words.new) result }
 {
-    let index = (body.pc / 4) as usize;
+    let text = code.words();
+    let index = (pc / 4) as usize;
     if index >= text.len() {
         return Executed::Faulted(Cause::Fetch);
     }
-    let word = text[index];
-    match operation(word) {
-        Some(op) => perform(op, word, text, body),
-        None => Executed::Faulted(Cause::Illegal),
-    }
+    perform(code.at(index), text, pc, regs, words)
 }

@@ -12,6 +12,8 @@ mod laws;
 mod memory;
 mod outcome;
 mod perform;
+mod registers;
+mod run;
 mod task;
 
 pub use laws::{instructions_are_orderly, places_rise, places_stay};

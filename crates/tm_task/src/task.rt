@@ -1,18 +1,20 @@
 //! A task: where its text is entered, and where it stands.
 
-ghost use Rattle.std.specs.Prelude.{◌≡◌, ◌+◌, ◌%◌, ◌^◌, ◌<◌, ◌≤◌, IfOk, MatchBool, length};
+ghost use Rattle.std.specs.Prelude.{◌≡◌, ◌+◌, ◌%◌, ◌^◌, ◌<◌, ◌≤◌, IfOk, length};
 ghost use Rattle.tm_task.specs.Standing.{booted_task, answered, args_of, marker_of, IsTask};
-ghost use Rattle.tm_task.specs.Stepped.{Did, DidRun, Raises};
-ghost use Rattle.tm_task.specs.RunsOn.{RunsOn, HasStopped, Stays};
+ghost use Rattle.tm_task.specs.Stepped.{Did, Raises};
+ghost use Rattle.tm_task.specs.RunsOn.{RunsOn, HasStopped};
 ghost use Rattle.tm_marker.specs.Order.{IsBefore};
 
 use crate::Stepped;
 use crate::answer::{begins_epoch, boot_registers, reply};
 use crate::execute::{Executed, execute};
-use crate::perform::read;
+use crate::registers::{Registers, read};
+use crate::run::run;
 use std::alloc::{AllocError, Global};
 use std::marker::Model;
 use tm_marker::{Body, DataEntry, EPOCH_LENGTH, Items, Marker};
+use tm_rv::Code;
 
 /// One task. Its text is handed to each step, and is at address 0; its data starts at
 /// [`crate::DATA_START`]. A task's marker rises with each instruction that it executes.
@@ -63,19 +65,24 @@ impl Task {
     /// the task is as before. The call takes no memory.
     #[inline]
     #[tactic(auto, using(crate::proofs::Following::goes_on, crate::proofs::Following::calls_inside))]
-    pub fn step(&mut self, text: &[u32]) -> Stepped
-        requires some { 0 < length text.now }
-        requires few { length text.now ≤ 16384 }
+    pub fn step(&mut self, code: &Code) -> Stepped
+        requires some { 0 < length code.now }
+        requires few { length code.now ≤ 16384 }
         requires epoch { self.old.standing.epoch < 2 ^ 53 }
-        ensures did { Did text.now self.old result self.new }
+        ensures did { Did code.now self.old result self.new }
         ensures raised { Raises result self.old.standing self.new.standing }
         ensures epoch { self.new.standing.epoch ≤ self.old.standing.epoch + 1 }
         ensures words { length self.new.standing.body.words ≡ length self.old.standing.body.words }
         ensures task { IsTask self.new }
     {
-        match execute(&mut self.body, text) {
-            Executed::Went { back: false } => Stepped::Ran,
-            Executed::Went { back: true } => {
+        let mut regs = Registers::of(&self.body.regs);
+        match execute(code, self.body.pc, &mut regs, &mut self.body.words) {
+            Executed::Went { pc, back } => {
+                self.body.pc = pc;
+                regs.put_into(&mut self.body.regs);
+                if !back {
+                    return Stepped::Ran;
+                }
                 if self.count + 1 == EPOCH_LENGTH {
                     self.epoch += 1;
                     self.count = 0;
@@ -94,25 +101,27 @@ impl Task {
     /// many: it stops before one that calls or faults, and where the next backward transfer would
     /// begin an epoch, so that [`Task::step`] does those. The call takes no memory.
     #[inline]
-    pub fn advance(&mut self, text: &[u32], most: u32) -> u32
-        requires some { 0 < length text.now }
-        requires few { length text.now ≤ 16384 }
+    pub fn advance(&mut self, code: &Code, most: u32) -> u32
+        requires some { 0 < length code.now }
+        requires few { length code.now ≤ 16384 }
         requires epoch { self.old.standing.epoch < 2 ^ 53 }
         ensures within { result ≤ most }
-        ensures ran { RunsOn text.now result self.old self.new }
-        ensures stopped { result < most → HasStopped text.now self.new }
+        ensures ran { RunsOn code.now result self.old self.new }
+        ensures stopped { result < most → HasStopped code.now self.new }
         ensures epoch { self.new.standing.epoch ≡ self.old.standing.epoch }
         ensures words { length self.new.standing.body.words ≡ length self.old.standing.body.words }
         ensures task { IsTask self.new }
     {
-        // A task keeps what every task does: known from here on.
-        let _ = &self.count;
-        for done in 0..most {
-            if !self.runs(text) {
-                return done;
-            }
+        if self.count == EPOCH_LENGTH - 1 {
+            return 0;
         }
-        most
+        let mut regs = Registers::of(&self.body.regs);
+        let (mut pc, mut count) = (self.body.pc, self.count);
+        let done = run(code, &mut pc, &mut count, &mut regs, &mut self.body.words, most);
+        self.body.pc = pc;
+        regs.put_into(&mut self.body.regs);
+        self.count = count;
+        done
     }
 
     /// What a call hands to its service: the registers a0 to a5.
@@ -190,32 +199,6 @@ impl Task {
         copy_body(&mut self.body, &other.body);
         self.epoch = other.epoch;
         self.count = other.count;
-    }
-}
-
-impl Task {
-    /// Executes one instruction, if it neither calls nor faults, and a backward transfer would begin
-    /// no epoch; tells whether it did.
-    #[inline]
-    #[tactic(auto, using(crate::proofs::Following::goes_on))]
-    fn runs(&mut self, text: &[u32]) -> bool
-        requires { length text.now ≤ 16384 }
-        ensures ran { MatchBool result (DidRun text.now self.old self.new) (Stays text.now self.old self.new) }
-        ensures words { length self.new.standing.body.words ≡ length self.old.standing.body.words }
-        ensures task { IsTask self.new }
-    {
-        if self.count == EPOCH_LENGTH - 1 {
-            return false;
-        }
-        match execute(&mut self.body, text) {
-            Executed::Went { back } => {
-                if back {
-                    self.count += 1;
-                }
-                true
-            }
-            Executed::Called(_) | Executed::Faulted(_) => false,
-        }
     }
 }
 

@@ -1,19 +1,41 @@
-use Rattle.std.proofs.Common.{◌∙◌, refl, subst}
-use Rattle.tm_task.specs.Standing.{IsTask}
-use Rattle.tm_task.specs.Stepped.{DidRun}
-use Rattle.tm_task.proofs.Running.{runs_none, runs_more}
+use Rattle.std.proofs.Common.{◌≡◌, ◌∙◌, ◌^◌, ◌<◌, sym, subst, ap, List, ℕ, length, arith}
+use Rattle.tm_task.specs.Parts.{body_at}
+use Rattle.tm_task.specs.RunsOn.{HasStopped}
+use Rattle.tm_task.specs.Standing.{TaskView, IsTask, task_view}
+use Rattle.tm_task.proofs.Running.{runs_none, runs_between}
 use Rattle.tm_task.proofs.task.Task.advance.Goals as goal
 
-pub loop-done-init : goal.loop-done-init
-loop-done-init c =
-    record { ran = runs_none _ _; epoch = refl; words = refl; task = subst IsTask c.self.view_is c.self.invariant }
+pub returns-then-self-clause-ran : goal.returns-then-self-clause-ran
+returns-then-self-clause-ran c = runs_none c.args.code.now c.args.self.now
 
-pub loop-done-preserved : goal.loop-done-preserved
-loop-done-preserved c =
-    let did : DidRun c.args.text.now c.loop-done.self c.runs.new.self = c.if-not-runs.ensures.ran in
+pub invariant_of-self : goal.invariant_of-self
+invariant_of-self c =
     record {
-      ran = runs_more c.args.text.now c.loop-done.done c.args.self.now c.loop-done.self c.runs.new.self c.loop-done.invariant.ran did;
-      epoch = did.epoch ∙ c.loop-done.invariant.epoch;
-      words = c.runs.ensures.words ∙ c.loop-done.invariant.words;
-      task = c.runs.ensures.task;
+      entry = c.self.invariant.entry;
+      words = (omega arith, omega arith);
+      registers = ap length c.put_into.ensures ∙ c.run-done.ensures.registers ∙ c.of-regs.ensures.all;
+      pc = (c.run-done.ensures.aligned, c.run-done.ensures.small);
+      count = c.run-done.ensures.count;
+    }
+
+pub returns-clause-ran : goal.returns-clause-ran
+returns-clause-ran c =
+    runs_between _ _ _ _ _ _
+    (ap (λ (regs : List ℕ). task_view c.self.inside.entry (body_at c.self.inside.body.pc regs c.self.inside.body.words) c.self.inside.epoch c.self.inside.count) c.of-regs.ensures.value ∙ c.self.view_is)
+    (ap (λ (regs : List ℕ). task_view c.self.inside.entry (body_at c.run-done.new.pc regs c.run-done.new.words) c.self.inside.epoch c.run-done.new.count) (sym c.put_into.ensures))
+    (c.run-done.ensures.ran c.self.inside.entry c.self.inside.epoch)
+
+pub returns-clause-stopped : goal.returns-clause-stopped
+returns-clause-stopped c = λ less.
+    subst (λ (regs : List ℕ). HasStopped c.args.code.now (task_view c.self.inside.entry (body_at c.run-done.new.pc regs c.run-done.new.words) c.self.inside.epoch c.run-done.new.count))
+    (sym c.put_into.ensures) (c.run-done.ensures.stopped less c.self.inside.entry c.self.inside.epoch)
+
+pub returns-clause-task : goal.returns-clause-task
+returns-clause-task c =
+    record {
+      entry = c.self.invariant.entry;
+      words = (omega arith, omega arith);
+      registers = ap length c.put_into.ensures ∙ c.run-done.ensures.registers ∙ c.of-regs.ensures.all;
+      pc = (c.run-done.ensures.aligned, c.run-done.ensures.small);
+      count = c.run-done.ensures.count;
     }
