@@ -14,6 +14,7 @@ use std::alloc::Global;
 use std::marker::Model;
 use tm_kernel::KernelSpec;
 use tm_marker::Shape;
+use tm_rv::Code;
 
 /// What a machine of 1 to 16 tasks is made of. The tasks are numbered from 0 in the order of the
 /// file; each has 1 to 16,384 words of text and of data, and an entry inside its text. With it go the
@@ -74,8 +75,8 @@ impl Image {
         self.parts.loads()[task as usize].entry()
     }
 
-    /// The words of the task's text.
-    pub fn text(&self, task: u8) -> &[u32]
+    /// The task's text, with the instructions that its words are.
+    pub fn text(&self, task: u8) -> &Code
         requires { task < length self.now.loads }
         ensures value { result.now ≡ text_of self.now task }
         ensures sound { IsLoad (load_of self.now task) }

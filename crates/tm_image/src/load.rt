@@ -9,6 +9,7 @@ use crate::said::{DataLine, TextLine};
 use std::alloc::{AllocError, Global};
 use std::marker::Model;
 use tm_marker::Items;
+use tm_rv::Code;
 
 /// How many words a task's text and data have at most.
 pub(crate) const MOST_WORDS: usize = 16_384;
@@ -17,7 +18,7 @@ pub(crate) const MOST_WORDS: usize = 16_384;
 #[derive(Debug, Drop)]
 pub(crate) struct Loaded {
     entry: u32,
-    text: Vec<u32>,
+    text: Code,
     words: Vec<u32>,
 }
 
@@ -27,9 +28,9 @@ impl Model for Loaded {
 
     ghost Value = { Load };
 
-    ghost view = { λ l. record { entry = l.entry; text = l.text.items; words = l.words.items } };
+    ghost view = { λ l. record { entry = l.entry; text = l.text; words = l.words.items } };
 
-    ghost invariant = { λ l. (length l.text.items ≤ 16384) × (length l.words.items < 2 ^ 32) };
+    ghost invariant = { λ l. (length l.text ≤ 16384) × (length l.words.items < 2 ^ 32) };
 }
 
 impl Loaded {
@@ -40,7 +41,7 @@ impl Loaded {
         let words = vec![in alloc; 0; words as usize]?;
         Ok(Loaded {
             entry,
-            text: Vec::new(alloc),
+            text: Code::new(alloc),
             words,
         })
     }
@@ -51,10 +52,10 @@ impl Loaded {
         self.entry
     }
 
-    pub(crate) fn text(&self) -> &[u32]
+    pub(crate) fn text(&self) -> &Code
         ensures { result.now ≡ self.now.text }
     {
-        self.text.as_slice()
+        &self.text
     }
 
     pub(crate) fn words(&self) -> &[u32]
@@ -68,23 +69,23 @@ impl Loaded {
     pub(crate) fn has_no_text(&self) -> bool
         ensures { result ≡ has_no_text self.now }
     {
-        self.text.is_empty()
+        self.text.words().is_empty()
     }
 
     /// Whether the entry is no address in the text.
     pub(crate) fn is_outside(&self) -> bool
         ensures { result ≡ is_outside self.now }
     {
-        self.entry as usize >= 4 * self.text.len()
+        self.entry as usize >= 4 * self.text.words().len()
     }
 
     fn add_text(&mut self, words: &[u32]) -> Result<(), Reason>
         ensures { Answers (λ _. self.new) result (more_text words.now (Some self.old)) }
     {
-        if self.text.len() + words.len() > MOST_WORDS {
+        if self.text.words().len() + words.len() > MOST_WORDS {
             return Err(Reason::Limit);
         }
-        self.text.extend_from_slice(words)?;
+        self.text.extend(words)?;
         Ok(())
     }
 

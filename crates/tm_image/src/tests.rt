@@ -219,7 +219,7 @@ fn a_text_has_at_most_16384_words(rt: HostRuntime) -> Result<(), Fail> {
         all.push_str(" 0000006f")?;
     }
     let read = image(alloc, all.as_str()).expect(&rt, "16,384 words");
-    assert_eq!(rt; read.text(0).len(), 16_384);
+    assert_eq!(rt; read.text(0).words().len(), 16_384);
     all.push_str("\ntext 0 0000006f")?;
     let fault = image(alloc, all.as_str()).err();
     assert_eq!(rt;
@@ -239,7 +239,7 @@ fn data_lines_set_words(rt: HostRuntime) -> Result<(), Fail> {
         "tmi 1\ntask 0 extended 255 off 4 4\ntext 0 00000013\ntext 0 0000006F\ndata 0 1 00000007 00000008\ndata 0 0x2 fFfFfFfF\n";
     let read = image(alloc, all).expect(&rt, "an image");
     assert_eq!(rt; read.entry(0), 4);
-    assert_eq!(rt; read.text(0), [0x13, 0x6f].as_slice());
+    assert_eq!(rt; read.text(0).words(), [0x13, 0x6f].as_slice());
     assert_eq!(rt; read.words(0), [0, 7, 0xffff_ffff, 0].as_slice());
     let task = TaskSpec {
         extended: true,
@@ -287,7 +287,7 @@ fn assert_is_cell(rt: &impl Abort, read: &Image) {
     assert_eq!(rt; spec.lines[3], Action::Nothing);
     assert_eq!(rt; read.tasks(), 5);
     assert_eq!(rt;
-        read.text(0),
+        read.text(0).words(),
         [
             0x1000_02b7,
             0x0002_a303,
@@ -297,10 +297,10 @@ fn assert_is_cell(rt: &impl Abort, read: &Image) {
         ]
         .as_slice()
     );
-    assert_eq!(rt; read.text(1).len(), 12);
-    assert_eq!(rt; read.text(2).len(), 23);
-    assert_eq!(rt; read.text(3).len(), 8);
-    assert_eq!(rt; read.text(4).len(), 36);
+    assert_eq!(rt; read.text(1).words().len(), 12);
+    assert_eq!(rt; read.text(2).words().len(), 23);
+    assert_eq!(rt; read.text(3).words().len(), 8);
+    assert_eq!(rt; read.text(4).words().len(), 36);
 }
 
 #[test]

@@ -17,6 +17,7 @@ use std::marker::Model;
 use tm_image::Image;
 use tm_kernel::{Kernel, Need};
 use tm_marker::{DataEntry, Kind, Marker, NOBODY, OutputEntry, Switch};
+use tm_rv::Code;
 use tm_task::{Cause, Stepped, Task};
 
 /// What one moment of a run adds to the lists that the run leaves: the data entry and the output of
@@ -198,29 +199,29 @@ impl Machine {
 impl Machine {
     /// One instruction of a task by its text.
     #[inline]
-    fn step(&mut self, task: u8, text: &[u32]) -> Stepped
+    fn step(&mut self, task: u8, code: &Code) -> Stepped
         requires there { task < length self.old.tasks }
-        requires some { 0 < length text.now }
-        requires few { length text.now ≤ 16384 }
+        requires some { 0 < length code.now }
+        requires few { length code.now ≤ 16384 }
         requires epoch { IfSome (slice_get self.old.tasks task) (λ t. t.standing.epoch < 2 ^ 53) }
-        ensures { StepsTask text.now task self.old result self.new }
+        ensures { StepsTask code.now task self.old result self.new }
     {
-        self.tasks[usize::from(task)].step(text)
+        self.tasks[usize::from(task)].step(code)
     }
 
     /// Up to `most` instructions of a task by its text, and how many.
     #[inline]
-    fn run_on(&mut self, task: u8, text: &[u32], most: u32) -> u32
+    fn run_on(&mut self, task: u8, code: &Code, most: u32) -> u32
         requires there { task < length self.old.tasks }
-        requires some { 0 < length text.now }
-        requires few { length text.now ≤ 16384 }
+        requires some { 0 < length code.now }
+        requires few { length code.now ≤ 16384 }
         requires epoch { IfSome (slice_get self.old.tasks task) (λ t. t.standing.epoch < 2 ^ 53) }
         ensures within { result ≤ most }
-        ensures ran { RunsTask text.now task self.old result self.new }
-        ensures stopped { result < most → IfSome (slice_get self.new.tasks task) (HasStopped text.now) }
+        ensures ran { RunsTask code.now task self.old result self.new }
+        ensures stopped { result < most → IfSome (slice_get self.new.tasks task) (HasStopped code.now) }
         ensures sound { IsMachine self.new }
     {
-        self.tasks[usize::from(task)].advance(text, most)
+        self.tasks[usize::from(task)].advance(code, most)
     }
 
     /// Answers the running task's call of a service; a rescheduling follows.

@@ -1,5 +1,7 @@
 //! Instructions and answers, against values worked by hand.
 
+ghost use Rattle.std.specs.Prelude.{◌≡◌, IfOk};
+
 mod cases;
 
 use super::*;
@@ -8,11 +10,21 @@ use std::alloc::Global;
 use std::process::Abort;
 use std::test::Fail;
 use tm_marker::{DataEntry, Marker};
+use tm_rv::Code;
+
+/// The text of these words.
+fn code_of(alloc: Global, words: &[u32]) -> Result<Code, Fail>
+    ensures { IfOk result (λ code. code ≡ words.now) }
+{
+    let mut code = Code::new(alloc);
+    code.extend(words)?;
+    Ok(code)
+}
 
 /// A call at address 0 gives a0 to a4 their values; then the case's instruction is executed.
 fn check(rt: &impl Abort, alloc: Global, cases: &[Case]) -> Result<(), Fail> {
     for &(name, word, x, y, want) in cases {
-        let text = [0x0000_0073, word, TEXT_END[0], TEXT_END[1]];
+        let text = code_of(alloc, &[0x0000_0073, word, TEXT_END[0], TEXT_END[1]])?;
         let mut task = Task::new(alloc, 0, &WORDS)?;
         let Stepped::Call(0) = task.step(&text) else {
             return Err("the text begins with a call")?;
@@ -108,7 +120,7 @@ fn others(rt: HostRuntime) -> Result<(), Fail> {
 #[test]
 fn jumps_past_the_text(rt: HostRuntime) -> Result<(), Fail> {
     // jal a2, 0x800
-    let text = [0x0010_066f];
+    let text = code_of(rt.alloc(), &[0x0010_066f])?;
     let mut task = Task::new(rt.alloc(), 0, &WORDS)?;
     assert_eq!(rt; task.step(&text), Stepped::Ran);
     for _ in 0..2 {
@@ -127,7 +139,7 @@ fn jumps_past_the_text(rt: HostRuntime) -> Result<(), Fail> {
 #[test]
 fn runs_off_the_text(rt: HostRuntime) -> Result<(), Fail> {
     // fence
-    let text = [0x0000_000f, 0x0000_000f];
+    let text = code_of(rt.alloc(), &[0x0000_000f, 0x0000_000f])?;
     let mut task = Task::new(rt.alloc(), 4, &WORDS)?;
     assert_eq!(rt; task.step(&text), Stepped::Ran);
     assert_eq!(rt; task.step(&text), Stepped::Fault(Cause::Fetch));
@@ -148,7 +160,7 @@ fn calls_by_a7(rt: HostRuntime) -> Result<(), Fail> {
     ];
     for (number, service) in cases {
         // addi a7, x0, number; ecall
-        let text = [(number << 20) + 0x893, 0x0000_0073];
+        let text = code_of(rt.alloc(), &[(number << 20) + 0x893, 0x0000_0073])?;
         let mut task = Task::new(rt.alloc(), 0, &WORDS)?;
         assert_eq!(rt; task.step(&text), Stepped::Ran);
         assert_eq!(rt; task.step(&text), Stepped::Call(service), "at {number}");
@@ -160,7 +172,7 @@ fn calls_by_a7(rt: HostRuntime) -> Result<(), Fail> {
 #[test]
 fn an_epoch_ends_at_its_last_count(rt: HostRuntime) -> Result<(), Fail> {
     // jal x0, 0
-    let text = [0x0000_006f];
+    let text = code_of(rt.alloc(), &[0x0000_006f])?;
     let mut task = Task::new(rt.alloc(), 0, &WORDS)?;
     for count in 0..1_048_575 {
         assert_eq!(rt;
@@ -206,7 +218,7 @@ fn an_epoch_ends_at_its_last_count(rt: HostRuntime) -> Result<(), Fail> {
 #[test]
 fn goes_on_as_far_as_it_may(rt: HostRuntime) -> Result<(), Fail> {
     // addi a7, x0, 7; addi a0, a0, 1; ecall; jal x0, -8
-    let text = [0x0070_0893, 0x0015_0513, 0x0000_0073, 0xff9f_f06f];
+    let text = code_of(rt.alloc(), &[0x0070_0893, 0x0015_0513, 0x0000_0073, 0xff9f_f06f])?;
     let mut task = Task::new(rt.alloc(), 0, &WORDS)?;
     assert_eq!(rt; task.advance(&text, 1), 1);
     assert_eq!(rt; task.advance(&text, 0), 0);
@@ -216,15 +228,17 @@ fn goes_on_as_far_as_it_may(rt: HostRuntime) -> Result<(), Fail> {
     assert_eq!(rt; task.step(&text), Stepped::Call(7));
 
     // fence, and nothing after it
+    let text = code_of(rt.alloc(), &[0x0000_000f])?;
     let mut task = Task::new(rt.alloc(), 0, &WORDS)?;
-    assert_eq!(rt; task.advance(&[0x0000_000f], 9), 1);
-    assert_eq!(rt; task.step(&[0x0000_000f]), Stepped::Fault(Cause::Fetch));
+    assert_eq!(rt; task.advance(&text, 9), 1);
+    assert_eq!(rt; task.step(&text), Stepped::Fault(Cause::Fetch));
 
     // jal x0, 0
+    let text = code_of(rt.alloc(), &[0x0000_006f])?;
     let mut task = Task::new(rt.alloc(), 0, &WORDS)?;
-    assert_eq!(rt; task.advance(&[0x0000_006f], 2_000_000), 1_048_575);
-    assert_eq!(rt; task.step(&[0x0000_006f]), Stepped::Forced);
-    assert_eq!(rt; task.advance(&[0x0000_006f], 3), 3);
+    assert_eq!(rt; task.advance(&text, 2_000_000), 1_048_575);
+    assert_eq!(rt; task.step(&text), Stepped::Forced);
+    assert_eq!(rt; task.advance(&text, 3), 3);
     assert_eq!(rt; task.marker().count, 3);
     Ok(())
 }
@@ -233,7 +247,7 @@ fn goes_on_as_far_as_it_may(rt: HostRuntime) -> Result<(), Fail> {
 #[test]
 fn becomes_another(rt: HostRuntime) -> Result<(), Fail> {
     // addi a0, x0, 5; sw a0, 4(x5); jal x0, 0
-    let text = [0x0050_0513, 0x00a2_a223, 0x0000_006f];
+    let text = code_of(rt.alloc(), &[0x0050_0513, 0x00a2_a223, 0x0000_006f])?;
     let mut task = Task::new(rt.alloc(), 0, &WORDS)?;
     assert_eq!(rt; task.advance(&text, 1), 1);
     let mut other = Task::new(rt.alloc(), 8, &WORDS)?;
@@ -277,7 +291,7 @@ fn answers(rt: HostRuntime) -> Result<(), Fail> {
         (20, 0, false, 0),
     ] {
         // 0: ecall; 4: fence; 8: jal x0, -8
-        let text = [0x0000_0073, 0x0000_000f, 0xff9f_f06f];
+        let text = code_of(rt.alloc(), &[0x0000_0073, 0x0000_000f, 0xff9f_f06f])?;
         let mut task = Task::new(rt.alloc(), 8, &WORDS)?;
         assert_eq!(rt; task.body().regs, boot);
         assert_eq!(rt; task.step(&text), Stepped::Ran);
