@@ -6,7 +6,7 @@ use Rattle.std.proofs.lemmas.Bool.{and_from, ne_eqb}
 use Rattle.std.proofs.lemmas.Bool.Decides.{nat_tests}
 use Rattle.std.proofs.lemmas.List.{append_assoc}
 use Rattle.std.proofs.lemmas.List.Elements.{All-head, All-tail}
-use Rattle.std.proofs.lemmas.Nat.{from_le_bytes-to_le_bytes_4, from_le_bytes-to_le_bytes_8}
+use Rattle.byteorder.specs.Numbers.{little_number-reads_back}
 use Rattle.tm_marker.specs.declared.marker.Marker.{Marker}
 use Rattle.tm_marker.specs.declared.marker.TheConstants.{EPOCH_LENGTH}
 use Rattle.tm_marker.specs.declared.entries.Kind.{Kind}
@@ -44,7 +44,7 @@ word_there p n rest small =
     let long : nat_lt (length at.left) 4 ≡ false = grind (arith, nat_tests) in
     record {
       after = record { place = p + 4; left = rest };
-      is = else_is (nat_lt (length at.left) 4) (bad at) (Ok (word_at at.left, past 4 at)) long ∙ ap (λ v. Ok (v, past 4 at)) (from_le_bytes-to_le_bytes_4 n small);
+      is = else_is (nat_lt (length at.left) 4) (bad at) (Ok (word_at at.left, past 4 at)) long ∙ ap (λ v. Ok (v, past 4 at)) (little_number-reads_back 4 n [] small);
       left = refl;
     }
 
@@ -55,7 +55,7 @@ long_there p n rest small =
     let long : nat_lt (length at.left) 8 ≡ false = grind (arith, nat_tests) in
     record {
       after = record { place = p + 8; left = rest };
-      is = else_is (nat_lt (length at.left) 8) (bad at) (Ok (long_at at.left, past 8 at)) long ∙ ap (λ v. Ok (v, past 8 at)) (from_le_bytes-to_le_bytes_8 n small);
+      is = else_is (nat_lt (length at.left) 8) (bad at) (Ok (long_at at.left, past 8 at)) long ∙ ap (λ v. Ok (v, past 8 at)) (little_number-reads_back 8 n [] small);
       left = refl;
     }
 

@@ -1,13 +1,13 @@
 -- What was read stood there: the bytes before a place are the spelling of the value.
 use Rattle.std.proofs.Common.{◌≡◌, ℕ, ◌<◌, List, [], ◌∷◌, ◌++◌, length, take, drop, refl, sym, ap, ◌∙◌, subst, arith, zero, suc, Bool, true, false, if◌then◌else◌, nat_lt, inl, inr}
 use Rattle.std.specs.Prelude.{Result, Ok, Err, slice_index, get_or}
-use Rattle.std.specs.Int.{w32, w64, from_le_bytes}
 use Rattle.std.specs.List.{flat_map}
 use Rattle.std.proofs.lemmas.List.{append_assoc, length-take-le, get_or_past}
 use Rattle.std.proofs.lemmas.List.Elements.{All-take, All-drop, All-get_or}
 use Rattle.std.proofs.lemmas.Bool.{cases_lt}
 use Rattle.std.proofs.lemmas.Bool.Decides.{nat_tests}
 use Rattle.std.proofs.lemmas.Nat.{le_bytes_4, le_bytes_8}
+use Rattle.byteorder.specs.Endian.{little_number}
 use Rattle.tm_image.specs.Steps.{◌>>=◌}
 use Rattle.tm_dump.specs.declared.fault.DumpFault.{DumpFault}
 use Rattle.tm_dump.specs.Bytes.{AreBytes}
@@ -62,13 +62,13 @@ small_at bytes small i = elim (cases_lt i (length bytes)) [
   | inr past ↦ subst (λ n. n < 256) (sym (get_or_past bytes i 0 past)) (omega arith)
 ]
 
-spelled_word : (bytes : List ℕ) → AreBytes bytes → length bytes ≡ 4 → word_bytes (from_le_bytes w32 bytes) ≡ bytes
+spelled_word : (bytes : List ℕ) → AreBytes bytes → length bytes ≡ 4 → word_bytes (little_number 4 bytes) ≡ bytes
 unfolding word_bytes
-spelled_word bytes small four = le_bytes_4 bytes (from_le_bytes w32 bytes) four (small_at bytes small) refl
+spelled_word bytes small four = le_bytes_4 bytes (little_number 4 bytes) four (small_at bytes small) (omega arith)
 
-spelled_long : (bytes : List ℕ) → AreBytes bytes → length bytes ≡ 8 → long_bytes (from_le_bytes w64 bytes) ≡ bytes
+spelled_long : (bytes : List ℕ) → AreBytes bytes → length bytes ≡ 8 → long_bytes (little_number 8 bytes) ≡ bytes
 unfolding long_bytes
-spelled_long bytes small eight = le_bytes_8 bytes (from_le_bytes w64 bytes) eight (small_at bytes small) refl
+spelled_long bytes small eight = le_bytes_8 bytes (little_number 8 bytes) eight (small_at bytes small) (omega arith)
 
 one_byte : (bytes : List ℕ) → nat_lt (length bytes) 1 ≡ false → take 1 bytes ≡ slice_index bytes 0 ∷ []
 one_byte [] long = cc long

@@ -1,8 +1,9 @@
 -- Numbers at a place of a dump: each is read from the bytes that are left.
 use Rattle.std.specs.Prelude.{◌≡◌, ℕ, zero, suc, ◌+◌, Bool, if◌then◌else◌, nat_lt, List, [], ◌∷◌, drop, take, length, slice_index, Result, Ok, Err}
-use Rattle.std.specs.Int.{w32, w64, from_le_bytes}
+use Rattle.byteorder.specs.Endian.{little_number}
 use Rattle.tm_image.specs.Steps.{◌>>=◌}
 use Rattle.tm_dump.specs.declared.fault.DumpFault.{DumpFault}
+use Rattle.tm_dump.specs.declared.widths.TheConstants.{WORD_BYTES, LONG_BYTES}
 use Rattle.tm_dump.specs.declared.fault.DumpFault.TheVariants.{Field, Memory}
 
 -- the place of the next byte, and the bytes from there on up to the closing digest
@@ -22,25 +23,25 @@ bad at = Err (Field at.place)
 abbrev pub past : ℕ → Cursor → Cursor
 past n at = record { place = at.place + n; left = drop n at.left }
 
--- the number that the next 4 bytes spell
+-- the number that the bytes of the next word spell
 unfoldable pub word_at : List ℕ → ℕ
-word_at bytes = from_le_bytes w32 (take 4 bytes)
+word_at bytes = little_number WORD_BYTES (take WORD_BYTES bytes)
 
--- the number that the next 8 bytes spell
+-- the number that the bytes of the next long number spell
 unfoldable pub long_at : List ℕ → ℕ
-long_at bytes = from_le_bytes w64 (take 8 bytes)
+long_at bytes = little_number LONG_BYTES (take LONG_BYTES bytes)
 
 -- a number of one byte
 abbrev pub byte_in : Cursor → Reading ℕ
 byte_in at = if nat_lt (length at.left) 1 then bad at else Ok (slice_index at.left 0, past 1 at)
 
--- a number of 4 bytes
+-- a number below 2 ^ 32
 abbrev pub word_in : Cursor → Reading ℕ
-word_in at = if nat_lt (length at.left) 4 then bad at else Ok (word_at at.left, past 4 at)
+word_in at = if nat_lt (length at.left) WORD_BYTES then bad at else Ok (word_at at.left, past WORD_BYTES at)
 
--- a number of 8 bytes
+-- a number below 2 ^ 64
 abbrev pub long_in : Cursor → Reading ℕ
-long_in at = if nat_lt (length at.left) 8 then bad at else Ok (long_at at.left, past 8 at)
+long_in at = if nat_lt (length at.left) LONG_BYTES then bad at else Ok (long_at at.left, past LONG_BYTES at)
 
 -- what was read of the field here, where that keeps the field's rule
 abbrev pub ruled : {X : Type 0} → Cursor → (X → Bool) → Reading X → Reading X

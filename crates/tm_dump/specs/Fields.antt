@@ -1,8 +1,8 @@
 -- How each value of a dump is spelled: numbers have their lowest byte first, and lists have one item
 -- after the other.
 use Rattle.std.specs.Prelude.{ℕ, List, [], ◌∷◌, ◌++◌, take}
-use Rattle.std.specs.Int.{w32, w64, to_le_bytes}
 use Rattle.std.specs.List.{flat_map}
+use Rattle.byteorder.specs.Endian.{little_bytes}
 use Rattle.tm_marker.specs.declared.body.Body.{Body}
 use Rattle.tm_marker.specs.declared.marker.Marker.{Marker}
 use Rattle.tm_marker.specs.declared.entries.Kind.{Kind}
@@ -11,14 +11,15 @@ use Rattle.tm_marker.specs.declared.entries.Switch.{Switch}
 use Rattle.tm_marker.specs.declared.entries.DataEntry.{DataEntry}
 use Rattle.tm_marker.specs.declared.entries.OutputEntry.{OutputEntry}
 use Rattle.tm_check.specs.Checkpoint.{Checkpoint}
+use Rattle.tm_dump.specs.declared.widths.TheConstants.{WORD_BYTES, LONG_BYTES}
 
--- a number below 2 ^ 32, in 4 bytes
+-- a number below 2 ^ 32
 unfoldable pub word_bytes : ℕ → List ℕ
-word_bytes number = to_le_bytes w32 number
+word_bytes number = little_bytes WORD_BYTES number
 
--- a number below 2 ^ 64, in 8 bytes
+-- a number below 2 ^ 64
 unfoldable pub long_bytes : ℕ → List ℕ
-long_bytes number = to_le_bytes w64 number
+long_bytes number = little_bytes LONG_BYTES number
 
 -- a marker: the epoch, the count, the pc
 unfoldable pub marker_bytes : Marker → List ℕ

@@ -19,6 +19,7 @@ use Rattle.tm_image.specs.Steps.{◌>>=◌}
 use Rattle.tm_log.specs.Window.{WindowView, window_from, nobody}
 use Rattle.tm_log.specs.WellFormed.{ended_by, runs_last, ended_last}
 use Rattle.tm_dump.specs.declared.fault.DumpFault.{DumpFault}
+use Rattle.tm_dump.specs.declared.widths.TheConstants.{MAGIC_BYTES, DIGEST_BYTES}
 use Rattle.tm_dump.specs.declared.fault.DumpFault.TheVariants.{Magic, Version, Digest, OtherImage, Field, Extra}
 use Rattle.tm_dump.specs.Dump.{closing_digest}
 use Rattle.tm_dump.specs.Cursor.{Cursor, Reading, byte_in, word_in, byte_where, word_where, long_where, words_in}
@@ -269,26 +270,26 @@ whole found = if length found.1.left == 0 then Ok found.0 else Err (Extra found.
 
 -- the fields from this place on, and no byte more
 abbrev pub inside : Shape → List ℕ → Result WindowView DumpFault
-inside shape bytes = fields_in shape (record { place = 37; left = bytes }) >>= whole
+inside shape bytes = fields_in shape (record { place = MAGIC_BYTES + DIGEST_BYTES; left = bytes }) >>= whole
 
 -- the image's digest, and all fields behind it
 abbrev pub behind_version : Shape → List ℕ → Result WindowView DumpFault
 behind_version shape bytes =
-    if nat_lt (length bytes) 32 then Err (Field 5)
-    else (if bytes_eq (take 32 bytes) shape.image then inside shape (drop 32 bytes)
-    else Err (OtherImage (take 32 bytes) shape.image))
+    if nat_lt (length bytes) DIGEST_BYTES then Err (Field MAGIC_BYTES)
+    else (if bytes_eq (take DIGEST_BYTES bytes) shape.image then inside shape (drop DIGEST_BYTES bytes)
+    else Err (OtherImage (take DIGEST_BYTES bytes) shape.image))
 
 -- all but the closing digest
 abbrev pub before_digest : List ℕ → List ℕ
-before_digest bytes = take (length bytes - 32) bytes
+before_digest bytes = take (length bytes - DIGEST_BYTES) bytes
 
 -- the closing digest
 abbrev pub found_digest : List ℕ → List ℕ
-found_digest bytes = drop (length bytes - 32) bytes
+found_digest bytes = drop (length bytes - DIGEST_BYTES) bytes
 
 -- there are enough bytes for a version and a digest, and they begin with the magic number
 abbrev pub is_dump : List ℕ → Bool
-is_dump bytes = nat_le 37 (length bytes) && bytes_eq (take 4 bytes) (0x54 ∷ 0x4d ∷ 0x44 ∷ 0x50 ∷ [])
+is_dump bytes = nat_le (MAGIC_BYTES + DIGEST_BYTES) (length bytes) && bytes_eq (take 4 bytes) (0x54 ∷ 0x4d ∷ 0x44 ∷ 0x50 ∷ [])
 
 -- the bytes between the version and the closing digest
 abbrev pub enclosed : List ℕ → Result (List ℕ) DumpFault
@@ -296,7 +297,7 @@ enclosed bytes =
     if not (is_dump bytes) then Err Magic
     else (if not (slice_index bytes 4 == 1) then Err (Version (slice_index bytes 4))
     else (if bytes_eq (found_digest bytes) (closing_digest (before_digest bytes))
-    then Ok (drop 5 (before_digest bytes))
+    then Ok (drop MAGIC_BYTES (before_digest bytes))
     else Err (Digest (found_digest bytes) (closing_digest (before_digest bytes)))))
 
 -- the window of a dump, or why the bytes are no dump of a window of this shape

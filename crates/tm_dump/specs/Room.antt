@@ -5,6 +5,7 @@ use Rattle.tm_marker.specs.declared.entries.DataEntry.{DataEntry}
 use Rattle.tm_ring.specs.Kept.{Kept}
 use Rattle.tm_check.specs.Checkpoint.{KeptChecks}
 use Rattle.tm_log.specs.Window.{WindowView}
+use Rattle.tm_dump.specs.declared.widths.TheConstants.{WORD_BYTES, LONG_BYTES, DIGEST_BYTES, HEAD_BYTES, SWITCH_BYTES, OUTPUT_BYTES, ENTRY_BYTES, CHECKPOINT_BYTES, ENDS_BYTES, STAND_BYTES}
 
 -- so many more items fit without taking memory
 abbrev pub HasRoom : {Z : Type 0} → Vec ℕ Z → ℕ → Type 0
@@ -24,7 +25,9 @@ pub record Lacks {Z : Type 0} (old now : Vec ℕ Z) (bytes rest : List ℕ) : Ty
 
 -- how many bytes a task's data entries and checkpoints have, each with all of its words
 abbrev pub task_room : Kept DataEntry × KeptChecks → ℕ
-task_room task = 16 + 21 * length task.0.items + (144 + 4 * task.1.words) * length task.1.items
+task_room task =
+    2 * LONG_BYTES + ENTRY_BYTES * length task.0.items
+    + (CHECKPOINT_BYTES + WORD_BYTES * task.1.words) * length task.1.items
 
 -- how many bytes those of all tasks have
 abbrev pub tasks_room : WindowView → ℕ
@@ -33,4 +36,5 @@ tasks_room w = sum_by task_room (zip w.logs w.checks)
 -- how many bytes a dump has, where each entry has four words and each body its 31 registers
 abbrev pub dump_room : WindowView → ℕ
 dump_room w =
-    88 + 35 * length w.control.items + 6 * length w.outputs.items + 17 * length w.shape.words + tasks_room w
+    HEAD_BYTES + (LONG_BYTES + SWITCH_BYTES * length w.control.items) + (LONG_BYTES + OUTPUT_BYTES * length w.outputs.items)
+    + tasks_room w + (ENDS_BYTES + STAND_BYTES * length w.shape.words) + DIGEST_BYTES

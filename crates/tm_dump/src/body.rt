@@ -10,6 +10,7 @@ use crate::checkpoints::put_checks;
 use crate::fields::put_marker;
 use crate::numbers::{put, put_byte};
 use crate::rings::{put_control, put_log, put_outputs};
+use crate::widths::{DIGEST_BYTES, ENDS_BYTES, HEAD_BYTES, STAND_BYTES};
 use tm_check::Checks;
 use tm_log::Window;
 use tm_marker::{DataEntry, Marker, Shape, Tail};
@@ -21,9 +22,9 @@ pub(crate) const MAGIC: [u8; 5] = [0x54, 0x4d, 0x44, 0x50, 1];
 #[tactic(auto, using(crate::proofs::Lengths::lengths), unfolding(crate::specs::Dump::head_bytes))]
 fn put_head(shape: &Shape, into: &mut Vec<u8>)
     requires shape { IsShape shape.now }
-    requires room { HasRoom into.old 38 }
+    requires room { HasRoom into.old HEAD_BYTES }
     ensures gains { Gains into.old into.new (head_bytes shape.now) }
-    ensures len { vec_len into.new ≡ vec_len into.old + 38 }
+    ensures len { vec_len into.new ≡ vec_len into.old + HEAD_BYTES }
 {
     put(&MAGIC, into);
     put(&shape.image, into);
@@ -53,9 +54,9 @@ fn put_tasks(window: &Window, into: &mut Vec<u8>)
 
 #[tactic(auto, using(crate::proofs::Lengths::lengths), unfolding(crate::specs::Dump::stand_bytes))]
 fn put_stand(at: Marker, state: u8, into: &mut Vec<u8>)
-    requires room { HasRoom into.old 17 }
+    requires room { HasRoom into.old STAND_BYTES }
     ensures gains { Gains into.old into.new (stand_bytes (at, state)) }
-    ensures len { vec_len into.new ≡ vec_len into.old + 17 }
+    ensures len { vec_len into.new ≡ vec_len into.old + STAND_BYTES }
 {
     put_marker(at, into);
     put_byte(state, into);
@@ -64,9 +65,9 @@ fn put_stand(at: Marker, state: u8, into: &mut Vec<u8>)
 /// Each task's marker and state.
 fn put_stands(tail: &Tail, into: &mut Vec<u8>)
     requires tasks { length tail.now.at ≡ length tail.now.state }
-    requires room { HasRoom into.old (17 * length tail.now.at) }
+    requires room { HasRoom into.old (STAND_BYTES * length tail.now.at) }
     ensures gains { Gains into.old into.new (flat_map stand_bytes (zip tail.now.at tail.now.state)) }
-    ensures len { vec_len into.new ≡ vec_len into.old + 17 * length tail.now.at }
+    ensures len { vec_len into.new ≡ vec_len into.old + STAND_BYTES * length tail.now.at }
 {
     for task in 0..tail.at.len() {
         put_stand(tail.at.at(task), tail.state.at(task), into);
@@ -77,9 +78,9 @@ fn put_stands(tail: &Tail, into: &mut Vec<u8>)
 #[tactic(auto, using(crate::proofs::Lengths::lengths), unfolding(crate::specs::Dump::tail_bytes))]
 fn put_tail(tail: &Tail, into: &mut Vec<u8>)
     requires tasks { length tail.now.at ≡ length tail.now.state }
-    requires room { HasRoom into.old (2 + 17 * length tail.now.at) }
+    requires room { HasRoom into.old (ENDS_BYTES + STAND_BYTES * length tail.now.at) }
     ensures gains { Gains into.old into.new (tail_bytes tail.now) }
-    ensures len { vec_len into.new ≡ vec_len into.old + (2 + 17 * length tail.now.at) }
+    ensures len { vec_len into.new ≡ vec_len into.old + (ENDS_BYTES + STAND_BYTES * length tail.now.at) }
 {
     put(&[tail.running, tail.ended], into);
     put_stands(tail, into);
@@ -90,7 +91,7 @@ fn put_tail(tail: &Tail, into: &mut Vec<u8>)
 pub(crate) fn put_body(window: &Window, into: &mut Vec<u8>)
     requires room { HasRoom into.old (dump_room window.now) }
     ensures gains { Gains into.old into.new (body_bytes window.now) }
-    ensures len { vec_len into.new + 32 ≤ vec_len into.old + dump_room window.now }
+    ensures len { vec_len into.new + DIGEST_BYTES ≤ vec_len into.old + dump_room window.now }
 {
     put_head(window.shape(), into);
     put_control(window.control(), into);

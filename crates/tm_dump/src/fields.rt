@@ -6,11 +6,12 @@ ghost use Rattle.tm_dump.specs.Fields.{word_bytes, marker_bytes, kind_number, sw
 ghost use Rattle.tm_dump.specs.Room.{HasRoom, Gains};
 
 use crate::numbers::{put, put_byte, put_long, put_word};
+use crate::widths::{ENTRY_BYTES, MARKER_BYTES, OUTPUT_BYTES, SWITCH_BYTES};
 use tm_marker::{DataEntry, Kind, Marker, OutputEntry, Switch};
 
 #[tactic(auto, using(crate::proofs::Lengths::lengths), unfolding(crate::specs::Fields::marker_bytes))]
 pub(crate) fn put_marker(at: Marker, into: &mut Vec<u8>)
-    requires room { HasRoom into.old 16 }
+    requires room { HasRoom into.old MARKER_BYTES }
     ensures { Gains into.old into.new (marker_bytes at) }
 {
     put_long(at.epoch, into);
@@ -33,7 +34,7 @@ fn number_of(kind: Kind) -> u8
 
 #[tactic(auto, using(crate::proofs::Lengths::lengths), unfolding(crate::specs::Fields::switch_bytes))]
 pub(crate) fn put_switch(entry: Switch, into: &mut Vec<u8>)
-    requires room { HasRoom into.old 35 }
+    requires room { HasRoom into.old SWITCH_BYTES }
     ensures { Gains into.old into.new (switch_bytes entry) }
 {
     put(&[entry.from, number_of(entry.kind)], into);
@@ -44,7 +45,7 @@ pub(crate) fn put_switch(entry: Switch, into: &mut Vec<u8>)
 
 #[tactic(auto, using(crate::proofs::Lengths::lengths), unfolding(crate::specs::Fields::output_bytes))]
 pub(crate) fn put_output(entry: OutputEntry, into: &mut Vec<u8>)
-    requires room { HasRoom into.old 6 }
+    requires room { HasRoom into.old OUTPUT_BYTES }
     ensures { Gains into.old into.new (output_bytes entry) }
 {
     put(&[entry.task, entry.port], into);
@@ -63,7 +64,7 @@ fn put_words(words: &[u32], into: &mut Vec<u8>)
 
 #[tactic(auto, using(crate::proofs::Lengths::lengths), unfolding(crate::specs::Fields::entry_bytes))]
 pub(crate) fn put_entry(entry: DataEntry, into: &mut Vec<u8>)
-    requires room { HasRoom into.old 21 }
+    requires room { HasRoom into.old ENTRY_BYTES }
     ensures { Gains into.old into.new (entry_bytes entry) }
 {
     put_byte(entry.service, into);

@@ -5,6 +5,10 @@ ghost use Rattle.std.specs.List.{zip};
 ghost use Rattle.tm_log.specs.Window.{dump_bound, task_bound};
 ghost use Rattle.tm_dump.specs.Room.{task_room, tasks_room, dump_room};
 
+use crate::widths::{
+    CHECKPOINT_BYTES, DIGEST_BYTES, ENDS_BYTES, ENTRY_BYTES, HEAD_BYTES, LONG_BYTES, OUTPUT_BYTES,
+    STAND_BYTES, SWITCH_BYTES, WORD_BYTES,
+};
 use tm_check::Checks;
 use tm_log::Window;
 use tm_marker::DataEntry;
@@ -17,10 +21,10 @@ fn task_length(log: &Ring<DataEntry>, checks: &Checks) -> u64
     requires words { checks.now.words ≤ 16384 }
     ensures room { result ≡ task_room (log.now, checks.now) }
     ensures few { result ≤ 5595152 }
-    ensures bound { result ≤ 16 + 21 * log.now.cap + (144 + 4 * checks.now.words) * checks.now.cap }
+    ensures bound { result ≤ 2 * LONG_BYTES + ENTRY_BYTES * log.now.cap + (CHECKPOINT_BYTES + WORD_BYTES * checks.now.words) * checks.now.cap }
 {
-    let check = 144 + 4 * u64::from(checks.data_words());
-    16 + 21 * u64::from(log.len()) + check * u64::from(checks.len())
+    let check = CHECKPOINT_BYTES + WORD_BYTES * u64::from(checks.data_words());
+    2 * LONG_BYTES + ENTRY_BYTES * u64::from(log.len()) + check * u64::from(checks.len())
 }
 
 /// The bytes of every task's data entries and checkpoints.
@@ -41,8 +45,10 @@ pub(crate) fn dump_length(window: &Window) -> u64
     ensures room { result ≡ dump_room window.now }
     ensures bound { result ≤ dump_bound window.now.shape }
 {
-    88 + 35 * u64::from(window.control().len())
-        + 6 * u64::from(window.outputs().len())
-        + 17 * u64::from(window.tasks())
+    HEAD_BYTES
+        + (LONG_BYTES + SWITCH_BYTES * u64::from(window.control().len()))
+        + (LONG_BYTES + OUTPUT_BYTES * u64::from(window.outputs().len()))
         + tasks_length(window)
+        + (ENDS_BYTES + STAND_BYTES * u64::from(window.tasks()))
+        + DIGEST_BYTES
 }

@@ -15,10 +15,11 @@ mod length;
 mod numbers;
 mod read;
 mod rings;
+pub mod widths;
 mod write;
 
 pub use fault::DumpFault;
-pub use laws::{dumps_are_bounded, dumps_are_read, reads_are_dumps};
+pub use laws::{dumps_are_bounded, dumps_are_read, reads_are_dumps, widths_are};
 pub use read::read_dump;
 pub use write::write_dump;
 

@@ -16,6 +16,7 @@ mod tasks;
 
 use crate::DumpFault;
 use crate::body::MAGIC;
+use crate::widths::{DIGEST_BYTES, MAGIC_BYTES};
 use crate::write::closing_digest;
 use cursor::Cursor;
 use rings::read_ring;
@@ -46,7 +47,7 @@ fn read_inside(alloc: Global, shape: &Shape, bytes: &[u8]) -> Result<Window, Dum
     requires { IsShape shape.now }
     ensures { Gives (λ window. window) result (inside shape.now bytes.now) }
 {
-    let mut at = Cursor::new(37, bytes);
+    let mut at = Cursor::new(MAGIC_BYTES + DIGEST_BYTES, bytes);
     let window = read_fields(alloc, shape, &mut at)?;
     if at.left() == 0 {
         Ok(window)
@@ -61,7 +62,7 @@ fn read_behind_version(alloc: Global, shape: &Shape, bytes: &[u8]) -> Result<Win
     ensures { Gives (λ window. window) result (behind_version shape.now bytes.now) }
 {
     let Some((image, rest)) = bytes.split_first_chunk::<32>() else {
-        return Err(DumpFault::Field { place: 5 });
+        return Err(DumpFault::Field { place: MAGIC_BYTES });
     };
     if *image != shape.image {
         return Err(DumpFault::OtherImage {
@@ -76,7 +77,7 @@ fn read_behind_version(alloc: Global, shape: &Shape, bytes: &[u8]) -> Result<Win
 fn enclosed(bytes: &[u8]) -> Result<&[u8], DumpFault>
     ensures { Gives (λ within. within.now) result (enclosed bytes.now) }
 {
-    if bytes.len() < 37 || bytes[..4] != MAGIC[..4] {
+    if (bytes.len() as u64) < MAGIC_BYTES + DIGEST_BYTES || bytes[..4] != MAGIC[..4] {
         return Err(DumpFault::Magic);
     }
     if bytes[4] != 1 {
@@ -92,7 +93,7 @@ fn enclosed(bytes: &[u8]) -> Result<&[u8], DumpFault>
             computed,
         });
     }
-    Ok(&body[5..])
+    Ok(&body[MAGIC.len()..])
 }
 
 /// The window of which these bytes are the dump, where they are the dump of a window of the image that a

@@ -8,6 +8,7 @@ ghost use Rattle.tm_dump.specs.Room.{HasRoom, Gains};
 
 use crate::fields::{put_entry, put_output, put_switch};
 use crate::numbers::put_long;
+use crate::widths::{ENTRY_BYTES, LONG_BYTES, OUTPUT_BYTES, SWITCH_BYTES};
 use tm_marker::{DataEntry, OutputEntry, Switch};
 use tm_ring::Ring;
 
@@ -24,9 +25,9 @@ pub(crate) fn kept<T: Copy>(ring: &Ring<T>, index: u32) -> T
 }
 
 fn put_switches(ring: &Ring<Switch>, into: &mut Vec<u8>)
-    requires room { HasRoom into.old (35 * length ring.now.items) }
+    requires room { HasRoom into.old (SWITCH_BYTES * length ring.now.items) }
     ensures gains { Gains into.old into.new (flat_map switch_bytes ring.now.items) }
-    ensures len { vec_len into.new ≤ vec_len into.old + 35 * length ring.now.items }
+    ensures len { vec_len into.new ≤ vec_len into.old + SWITCH_BYTES * length ring.now.items }
 {
     for index in 0..ring.len() {
         put_switch(kept(ring, index), into);
@@ -34,9 +35,9 @@ fn put_switches(ring: &Ring<Switch>, into: &mut Vec<u8>)
 }
 
 fn put_output_entries(ring: &Ring<OutputEntry>, into: &mut Vec<u8>)
-    requires room { HasRoom into.old (6 * length ring.now.items) }
+    requires room { HasRoom into.old (OUTPUT_BYTES * length ring.now.items) }
     ensures gains { Gains into.old into.new (flat_map output_bytes ring.now.items) }
-    ensures len { vec_len into.new ≤ vec_len into.old + 6 * length ring.now.items }
+    ensures len { vec_len into.new ≤ vec_len into.old + OUTPUT_BYTES * length ring.now.items }
 {
     for index in 0..ring.len() {
         put_output(kept(ring, index), into);
@@ -44,9 +45,9 @@ fn put_output_entries(ring: &Ring<OutputEntry>, into: &mut Vec<u8>)
 }
 
 fn put_data_entries(ring: &Ring<DataEntry>, into: &mut Vec<u8>)
-    requires room { HasRoom into.old (21 * length ring.now.items) }
+    requires room { HasRoom into.old (ENTRY_BYTES * length ring.now.items) }
     ensures gains { Gains into.old into.new (flat_map entry_bytes ring.now.items) }
-    ensures len { vec_len into.new ≤ vec_len into.old + 21 * length ring.now.items }
+    ensures len { vec_len into.new ≤ vec_len into.old + ENTRY_BYTES * length ring.now.items }
 {
     for index in 0..ring.len() {
         put_entry(kept(ring, index), into);
@@ -56,9 +57,9 @@ fn put_data_entries(ring: &Ring<DataEntry>, into: &mut Vec<u8>)
 /// The control entries.
 #[tactic(auto, using(crate::proofs::Lengths::lengths), unfolding(crate::specs::Dump::control_bytes))]
 pub(crate) fn put_control(ring: &Ring<Switch>, into: &mut Vec<u8>)
-    requires room { HasRoom into.old (8 + 35 * length ring.now.items) }
+    requires room { HasRoom into.old (LONG_BYTES + SWITCH_BYTES * length ring.now.items) }
     ensures gains { Gains into.old into.new (control_bytes ring.now) }
-    ensures len { vec_len into.new ≤ vec_len into.old + (8 + 35 * length ring.now.items) }
+    ensures len { vec_len into.new ≤ vec_len into.old + (LONG_BYTES + SWITCH_BYTES * length ring.now.items) }
 {
     put_long(ring.total(), into);
     put_switches(ring, into);
@@ -67,9 +68,9 @@ pub(crate) fn put_control(ring: &Ring<Switch>, into: &mut Vec<u8>)
 /// The outputs.
 #[tactic(auto, using(crate::proofs::Lengths::lengths), unfolding(crate::specs::Dump::outputs_bytes))]
 pub(crate) fn put_outputs(ring: &Ring<OutputEntry>, into: &mut Vec<u8>)
-    requires room { HasRoom into.old (8 + 6 * length ring.now.items) }
+    requires room { HasRoom into.old (LONG_BYTES + OUTPUT_BYTES * length ring.now.items) }
     ensures gains { Gains into.old into.new (outputs_bytes ring.now) }
-    ensures len { vec_len into.new ≤ vec_len into.old + (8 + 6 * length ring.now.items) }
+    ensures len { vec_len into.new ≤ vec_len into.old + (LONG_BYTES + OUTPUT_BYTES * length ring.now.items) }
 {
     put_long(ring.total(), into);
     put_output_entries(ring, into);
@@ -78,9 +79,9 @@ pub(crate) fn put_outputs(ring: &Ring<OutputEntry>, into: &mut Vec<u8>)
 /// The data entries of a task.
 #[tactic(auto, using(crate::proofs::Lengths::lengths), unfolding(crate::specs::Dump::log_bytes))]
 pub(crate) fn put_log(ring: &Ring<DataEntry>, into: &mut Vec<u8>)
-    requires room { HasRoom into.old (8 + 21 * length ring.now.items) }
+    requires room { HasRoom into.old (LONG_BYTES + ENTRY_BYTES * length ring.now.items) }
     ensures gains { Gains into.old into.new (log_bytes ring.now) }
-    ensures len { vec_len into.new ≤ vec_len into.old + (8 + 21 * length ring.now.items) }
+    ensures len { vec_len into.new ≤ vec_len into.old + (LONG_BYTES + ENTRY_BYTES * length ring.now.items) }
 {
     put_long(ring.total(), into);
     put_data_entries(ring, into);

@@ -8,6 +8,7 @@ ghost use Rattle.tm_dump.specs.Room.{HasRoom, Gains};
 use crate::body::put_body;
 use crate::length::dump_length;
 use crate::numbers::put;
+use crate::widths::DIGEST_BYTES;
 use sha2::{Digest, Sha256};
 use std::alloc::AllocError;
 use tm_log::Window;
@@ -16,7 +17,7 @@ use tm_log::Window;
 #[tactic(auto, unfolding(crate::specs::Dump::closing_digest))]
 pub(crate) fn closing_digest(body: &[u8]) -> [u8; 32]
     ensures digest { result ≡ closing_digest body.now }
-    ensures long { length result ≡ 32 }
+    ensures long { length result ≡ DIGEST_BYTES }
 {
     Sha256::digest(body)
 }
@@ -24,7 +25,7 @@ pub(crate) fn closing_digest(body: &[u8]) -> [u8; 32]
 /// The digest of all bytes from a place on.
 fn put_digest(start: usize, into: &mut Vec<u8>)
     requires start { start ≤ length into.old.items }
-    requires room { HasRoom into.old 32 }
+    requires room { HasRoom into.old DIGEST_BYTES }
     ensures { Gains into.old into.new (closing_digest (drop start into.old.items)) }
 {
     let digest = closing_digest(&into.as_slice()[start..]);

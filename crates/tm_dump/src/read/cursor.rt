@@ -5,6 +5,8 @@ ghost use Rattle.tm_dump.specs.declared.fault.DumpFault.TheVariants.{Field};
 ghost use Rattle.tm_dump.specs.Cursor.{byte_in, word_in, long_in, words_in, Gives};
 
 use crate::DumpFault;
+use crate::widths::{DIGEST_BYTES, LONG_BYTES, MAGIC_BYTES, WORD_BYTES};
+use byteorder::{ByteOrder, LittleEndian};
 use std::marker::Model;
 
 /// The bytes up to the closing digest that are not yet read, and the place of the first of them.
@@ -28,7 +30,7 @@ impl<'a> Model for Cursor<'a> {
 impl<'a> Cursor<'a> {
     /// The bytes from a place on.
     pub(crate) fn new(place: u64, left: &'a [u8]) -> Self
-        requires { place ≤ 37 }
+        requires { place ≤ MAGIC_BYTES + DIGEST_BYTES }
         ensures { result ≡ record { place = place; left = left.now } }
     {
         Cursor { place, left }
@@ -60,7 +62,7 @@ impl<'a> Cursor<'a> {
         Ok(bytes[0])
     }
 
-    /// A number of 4 bytes.
+    /// A number below 2^32.
     #[tactic(auto, unfolding(crate::specs::Cursor::word_at))]
     pub(crate) fn word(&mut self) -> Result<u32, DumpFault>
         ensures { Gives (λ word. (word, self.new)) result (word_in self.old) }
@@ -69,11 +71,11 @@ impl<'a> Cursor<'a> {
             return Err(DumpFault::Field { place: self.place });
         };
         self.left = rest;
-        self.place += 4;
-        Ok(u32::from_le_bytes(*bytes))
+        self.place += WORD_BYTES;
+        Ok(LittleEndian::read_u32(bytes))
     }
 
-    /// A number of 8 bytes.
+    /// A number below 2^64.
     #[tactic(auto, unfolding(crate::specs::Cursor::long_at))]
     pub(crate) fn long(&mut self) -> Result<u64, DumpFault>
         ensures { Gives (λ long. (long, self.new)) result (long_in self.old) }
@@ -82,8 +84,8 @@ impl<'a> Cursor<'a> {
             return Err(DumpFault::Field { place: self.place });
         };
         self.left = rest;
-        self.place += 8;
-        Ok(u64::from_le_bytes(*bytes))
+        self.place += LONG_BYTES;
+        Ok(LittleEndian::read_u64(bytes))
     }
 
     /// As many words as there are in `words`.
