@@ -70,12 +70,12 @@ before_lower : (e c p f d q : ℕ) → c < EPOCH_LENGTH → p < 2 ^ 32 →
     height (record { epoch = e; count = c; pc = p }) < height (record { epoch = f; count = d; pc = q })
 before_lower e c p f d q count pc before = grind (arith, nat_tests)
 
-lower : (a : Alone) (p : Place) (wanted : Marker) → IsWalker a p → marker_lt (marker_of p.standing) wanted ≡ true →
+pub lower : (a : Alone) (p : Place) (wanted : Marker) → IsWalker a p → marker_lt (marker_of p.standing) wanted ≡ true →
     height (marker_of p.standing) < height wanted
 lower a p wanted w before =
     before_lower p.standing.epoch p.standing.count p.standing.body.pc wanted.epoch wanted.count wanted.pc w.task.count w.task.pc.1 before
 
-rises : (a : Alone) (p q : Place) → IsWalker a p → next_or_why a p ≡ Ok q → height (marker_of p.standing) < height (marker_of q.standing)
+pub rises : (a : Alone) (p q : Place) → IsWalker a p → next_or_why a p ≡ Ok q → height (marker_of p.standing) < height (marker_of q.standing)
 rises a p q w is =
     lower a p (marker_of q.standing) w (places_rise_lem a.entry a.task a.text a.log p q w.few w.task (next_there a p q is))
 

@@ -1,7 +1,11 @@
 -- What the printed text tells of the values that are handed to it.
-use Rattle.std.specs.Prelude.{ℕ, ◌==◌, if◌then◌else◌, List, [], ◌∷◌, Option, option_map}
+use Rattle.std.specs.Prelude.{ℕ, ◌==◌, if◌then◌else◌, List, [], ◌∷◌, map, Option, option_map}
 use Rattle.tm_marker.specs.declared.entries.Switch.{Switch}
-use Rattle.tm_spelling.specs.Story.{View, Leave, Block, Last}
+use Rattle.tm_log.specs.Points.{entries_from}
+use Rattle.tm_log.specs.Window.{WindowView}
+use Rattle.tm_spelling.specs.Story.{View, Leave, Block, Last, Story}
+use Rattle.tm_spelling.specs.Tracks.{Stop as ToldStop, Track as ToldTrack, story_by}
+use Rattle.tm_text.specs.declared.seen.Replay.{Replay}
 use Rattle.tm_text.specs.declared.seen.Seen.{Seen}
 use Rattle.tm_text.specs.declared.seen.Stop.{Stop}
 use Rattle.tm_text.specs.declared.seen.Track.{Track}
@@ -32,3 +36,21 @@ lasts_of running [] states = []
 lasts_of running (track ∷ tracks) [] = []
 lasts_of running (track ∷ tracks) (state ∷ states) =
     last_of running track state ∷ lasts_of running tracks states
+
+-- a stop, and the track of a task, by what the text tells of them
+abbrev pub stop_view : Stop → ToldStop
+stop_view s = record { seq = s.seq; leave = leave_of s }
+
+abbrev pub track_view : Track → ToldTrack
+track_view t = record {
+  start = view_of t.start;
+  stops = map stop_view t.stops;
+  last = view_of t.last;
+  outputs = t.outputs;
+}
+
+-- what the text of a replay of a window tells: who left at each control entry after the point, and when,
+-- is the window's, and how is the tracks'
+abbrev pub replay_story : Replay → WindowView → Story
+replay_story r w =
+    story_by r.from r.running (map track_view r.tracks) (entries_from w.control r.from) w.tail

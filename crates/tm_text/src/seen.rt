@@ -32,3 +32,12 @@ pub struct Track {
     pub last: Seen,
     pub outputs: Items<OutputEntry>,
 }
+
+/// A replay of a window: the point that it begins from, who runs there or [`tm_marker::NOBODY`], and
+/// each task in rising number.
+#[derive(Debug, Drop)]
+pub struct Replay {
+    pub from: u64,
+    pub running: u8,
+    pub tracks: Items<Track>,
+}

@@ -106,7 +106,7 @@ fn put_start_views(seen: &[Seen], into: &mut Vec<u8>) -> Result<(), AllocError>
     Ok(())
 }
 
-fn put_start_view(seen: &Seen, into: &mut Vec<u8>) -> Result<(), AllocError>
+pub fn put_start_view(seen: &Seen, into: &mut Vec<u8>) -> Result<(), AllocError>
     ensures ok { OnOk result (into.new.items ≡ into.old.items ++
         start_view_text (view_of seen.now)) }
     ensures keeps { Keeps into.old.items into.new.items }
@@ -115,7 +115,7 @@ fn put_start_view(seen: &Seen, into: &mut Vec<u8>) -> Result<(), AllocError>
     put_values(seen, into)
 }
 
-fn put_block(
+pub fn put_block(
     seq: u64,
     switch: &Switch,
     stop: Option<&Stop>,
@@ -145,7 +145,7 @@ fn put_leave(stop: &Stop, into: &mut Vec<u8>) -> Result<(), AllocError>
     put_out_lines(stop.outputs.as_slice(), into)
 }
 
-fn put_end(tail: &Tail, tracks: &[Track], into: &mut Vec<u8>) -> Result<(), AllocError>
+pub fn put_end(tail: &Tail, tracks: &[Track], into: &mut Vec<u8>) -> Result<(), AllocError>
     requires { length tail.now.state ≡ length tracks.now }
     ensures ok { OnOk result (into.new.items ≡ into.old.items ++
         end_text tail.now.running tail.now.ended
