@@ -17,6 +17,6 @@ mod words;
 mod write;
 
 pub use differences::changes;
-pub use replay::write_replay;
+pub use replay::{TASKS, stop_of, write_replay};
 pub use seen::{Replay, Seen, Stop, Track};
 pub use write::{write_end, write_start, write_stop};

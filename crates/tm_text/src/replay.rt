@@ -18,7 +18,7 @@ use tm_marker::Switch;
 use tm_ring::Ring;
 
 /// How many tasks a window has at most.
-const TASKS: usize = 16;
+pub const TASKS: usize = 16;
 
 /// Appends the text of a replay of a window: its start, each control entry after the point, and its
 /// end. A stop stands with the control entry of its number; an entry whose task has no stop of that
@@ -90,9 +90,10 @@ fn put_blocks(
     Ok(())
 }
 
-/// The stop of a number of the task that a control entry comes from. Of each task so many stops, as its
-/// place, are of lesser numbers, so that it is mostly the one at that place.
-fn stop_of<'a>(
+/// The stop of a number of the task that a control entry comes from, where it has one. Of each task as
+/// many stops as its place are of lesser numbers, so that the wanted one is mostly at that place; where
+/// it isn't, all are looked through. The places begin at 0, and the numbers rise from call to call.
+pub fn stop_of<'a>(
     tracks: &'a [Track],
     places: &mut [usize; TASKS],
     seq: u64,
