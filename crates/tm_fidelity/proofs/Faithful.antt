@@ -40,7 +40,7 @@ no_epochs : (t : ℕ) → epochs t [] ≡ 0
 unfolding epochs
 no_epochs t = refl
 
-boot_accepted : (image : ImageView) (h : History) → IsWhole image h → IsAccepted image h 0
+pub boot_accepted : (image : ImageView) (h : History) → IsWhole image h → IsAccepted image h 0
 boot_accepted image h whole = record {
   reached = omega arith;
   entry = whole.controls;

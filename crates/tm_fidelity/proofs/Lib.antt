@@ -12,3 +12,10 @@ pub mod Stories
 pub mod Resting
 pub mod Fitting
 pub mod Faithful
+pub mod Moving
+pub mod Ways
+pub mod Causes
+pub mod Meetings
+pub mod Demands
+pub mod Traced
+pub mod Closing

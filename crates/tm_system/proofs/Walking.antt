@@ -3,7 +3,7 @@ use Rattle.std.proofs.Common.{◌≡◌, ℕ, zero, suc, ◌+◌, ◌^◌, ◌<�
 use Rattle.std.specs.Prelude.{ok_or}
 use Rattle.std.proofs.lemmas.Bool.{cases_Bool}
 use Rattle.std.proofs.lemmas.Bool.Decides.{nat_tests}
-use Rattle.tm_marker.specs.Order.{marker_lt}
+use Rattle.tm_marker.specs.Order.{marker_lt, IsBefore}
 use Rattle.tm_marker.specs.declared.body.Body.{Body}
 use Rattle.tm_marker.specs.declared.entries.DataEntry.{DataEntry}
 use Rattle.tm_marker.specs.declared.marker.Marker.{Marker}
@@ -64,6 +64,10 @@ walkers_stay a p q w is = record {
   task = places_stay_lem a.entry a.task a.text a.log p q w.few w.task (next_there a p q is);
 }
 
+-- its marker is greater
+pub walkers_rise : (a : Alone) (p q : Place) → IsWalker a p → next_or_why a p ≡ Ok q → IsBefore (marker_of p.standing) (marker_of q.standing)
+walkers_rise a p q w is = places_rise_lem a.entry a.task a.text a.log p q w.few w.task (next_there a p q is)
+
 -- a marker before another has the lesser number
 before_lower : (e c p f d q : ℕ) → c < EPOCH_LENGTH → p < 2 ^ 32 →
     marker_lt (record { epoch = e; count = c; pc = p }) (record { epoch = f; count = d; pc = q }) ≡ true →
@@ -76,8 +80,7 @@ lower a p wanted w before =
     before_lower p.standing.epoch p.standing.count p.standing.body.pc wanted.epoch wanted.count wanted.pc w.task.count w.task.pc.1 before
 
 pub rises : (a : Alone) (p q : Place) → IsWalker a p → next_or_why a p ≡ Ok q → height (marker_of p.standing) < height (marker_of q.standing)
-rises a p q w is =
-    lower a p (marker_of q.standing) w (places_rise_lem a.entry a.task a.text a.log p q w.few w.task (next_there a p q is))
+rises a p q w is = lower a p (marker_of q.standing) w (walkers_rise a p q w is)
 
 -- one instruction more or none, by where the task is
 walk_here : (a : Alone) (wanted : Marker) (n : ℕ) (p : Place) → marker_lt (marker_of p.standing) wanted ≡ false → walk a wanted n p ≡ Comes p
