@@ -29,7 +29,7 @@ told image h p t i r a below =
     record { tracing = x.tracing; is = x.is; tells = x.track }
 
 -- the replay of the window of a script's run
-script_replays : (image : ImageView) (script : List Slice) (p : ℕ) → IsImage image → IsAccepted image (run image script) p →
+pub script_replays : (image : ImageView) (script : List Slice) (p : ℕ) → IsImage image → IsAccepted image (run image script) p →
     IsReplay image (run image script) p
 script_replays image script p i a =
     let r : IsRun image (run image script) = scripts_are_runs image script i in

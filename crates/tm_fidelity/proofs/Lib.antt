@@ -19,3 +19,4 @@ pub mod Meetings
 pub mod Demands
 pub mod Traced
 pub mod Closing
+pub mod Living

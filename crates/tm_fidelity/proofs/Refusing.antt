@@ -63,7 +63,7 @@ check_lost image h t epoch words reached none =
     some_none e = cc
 
 -- a checkpoint that is kept is that of the run
-check_found : (image : ImageView) (h : History) (t epoch words : ℕ) (c : Checkpoint) →
+pub check_found : (image : ImageView) (h : History) (t epoch words : ℕ) (c : Checkpoint) →
     check_of (last_checks image.caps.checks words (checkpoints image t h)) epoch ≡ Some c → slice_get (checkpoints image t h) epoch ≡ Some c
 check_found image h t epoch words c is =
     let ks = checkpoints image t h in

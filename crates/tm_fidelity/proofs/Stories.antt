@@ -244,7 +244,7 @@ states_below states n many =
     ∙ sym (get_or_from_slice_get (below n g) t (g t) 0 (slice_get-below n g t (omega (arith, within, many)))
     ∙ ap number_of (slice_get-get_or states t Suspended within))))
 
-map-below : {A B : Type 0} (f : A → B) (n : ℕ) (g : ℕ → A) → map f (below n g) ≡ below n (λ t. f (g t))
+pub map-below : {A B : Type 0} (f : A → B) (n : ℕ) (g : ℕ → A) → map f (below n g) ≡ below n (λ t. f (g t))
 map-below f zero g = refl
 map-below f (suc n) g = map-append f (below n g) (g n ∷ []) ∙ ap (λ l. l ++ f (g n) ∷ []) (map-below f n g)
 

@@ -2,7 +2,6 @@
 use Rattle.std.proofs.Common.{◌≡◌, ℕ, zero, suc, ◌+◌, ◌<◌, ◌≤◌, Bool, true, false, ◌&&◌, nat_le, List, [], ◌∷◌, ◌++◌, length, drop, refl, ap, sym, ◌∙◌, subst, arith, inl, inr, Option, Some, slice_get, Ok, append-nil, length-append}
 use Rattle.std.proofs.lemmas.Bool.{cases_Bool, cases_eq, cases_lt, eq-eqb, ne_eqb, lt-leb}
 use Rattle.std.proofs.lemmas.List.{drop_all}
-use Rattle.std.proofs.lemmas.Option.{slice_get_within}
 use Rattle.tm_marker.specs.declared.marker.Marker.{Marker}
 use Rattle.tm_marker.specs.declared.entries.DataEntry.{DataEntry}
 use Rattle.tm_marker.specs.declared.entries.OutputEntry.{OutputEntry}
@@ -18,9 +17,8 @@ use Rattle.tm_spelling.specs.Tracks.{Stop, Track}
 use Rattle.tm_image.specs.Image.{ImageView, IsImage, words_of}
 use Rattle.tm_system.specs.History.{Moment, History}
 use Rattle.tm_system.specs.Run.{running_at, body_at}
-use Rattle.tm_system.specs.Marks.{is_start, backs, epochs, standing_at, marker_at}
+use Rattle.tm_system.specs.Marks.{epochs, standing_at, marker_at}
 use Rattle.tm_system.specs.Controls.{controls, is_switch, switch_at, entries, checkpoints}
-use Rattle.tm_system.specs.Gaining.{checkpoint_at}
 use Rattle.tm_system.specs.Telling.{upto, is_stop, printed, pending, start_at}
 use Rattle.tm_system.specs.Accepted.{IsPointKept, CanGoOnFrom, IsAccepted}
 use Rattle.tm_system.specs.Follows.{IsRun, Boots, GoesOn}
@@ -30,7 +28,6 @@ use Rattle.tm_system.specs.Wanted.{Demand, Stands, Runs, last_wanted, wanted_by,
 use Rattle.tm_system.specs.Tracing.{Tracing, Going, On, begun, seen_first, meet, meets, all_used, closed, track_of}
 use Rattle.tm_system.specs.Replaying.{replayed_from, replayed_in, replayed_task}
 use Rattle.tm_system.proofs.Texts.{controls_more, controls_stay, pending_none}
-use Rattle.tm_system.proofs.Below.{get_front}
 use Rattle.tm_system.proofs.Meeting.{meets_one, meets_none, meets_append, wanted_none}
 use Rattle.tm_fidelity.proofs.Upto.{upto_before, upto_here, boot_upto, here as at_point, no_controls, upto_run}
 use Rattle.tm_fidelity.proofs.Points.{marker_is}
@@ -41,7 +38,7 @@ use Rattle.tm_fidelity.proofs.Outputs.{boot_pending}
 use Rattle.tm_fidelity.proofs.Tracks.{run_stops, run_track, stops_boot}
 use Rattle.tm_fidelity.proofs.Resting.{rests_pending, boot_printed, printed_before}
 use Rattle.tm_fidelity.proofs.Moving.{alone_with, here}
-use Rattle.tm_fidelity.proofs.Ways.{Leads, leads_here, Way, way, checks_more, checks_stay}
+use Rattle.tm_fidelity.proofs.Ways.{Leads, leads_here, Way, way, check_stays}
 use Rattle.tm_fidelity.proofs.Meetings.{meets_start, meets_runs, meets_stands}
 use Rattle.tm_fidelity.proofs.Demands.{demands, IsMet, comes, met_on}
 
@@ -146,16 +143,6 @@ met_from image t p total c epoch outs (m ∷ h) i (GoesOn r f) below reached few
       (met_from image t p total c epoch outs h i r below before
       (subst (λ (g : History). c.data_number ≤ length (entries t g)) (upto_before image p m h before) few)
       (subst (λ (g : History). Leads image t c.data_number total g (start_place c.body epoch) outs) (upto_before image p m h before) leads))
-]
-
--- a checkpoint that was taken stays
-check_stays : (image : ImageView) (t k : ℕ) (c : Checkpoint) (m : Moment) (h : History) → slice_get (checkpoints image t h) k ≡ Some c →
-    slice_get (checkpoints image t (m ∷ h)) k ≡ Some c
-check_stays image t k c m h is = elim (cases_Bool (is_start t m.deed (backs t h))) [
-  | inl e ↦
-      ap (λ cs. slice_get cs k) (checks_more image t m h e)
-      ∙ get_front (checkpoints image t h) (checkpoint_at image t m h) k (slice_get_within (checkpoints image t h) k c is) ∙ is
-  | inr e ↦ ap (λ cs. slice_get cs k) (checks_stay image t m h e) ∙ is
 ]
 
 check_later : (image : ImageView) (t p k : ℕ) (c : Checkpoint) (h : History) → slice_get (checkpoints image t (upto image p h)) k ≡ Some c →
@@ -338,7 +325,7 @@ pub traced : (image : ImageView) (h : History) (p t : ℕ) → IsImage image →
 traced image h p t i r a below =
     let epoch : ℕ = epochs t (upto image p h) in
     let c = a.tasks t below in
-    let w : Way image t (upto image p h) = way image t (upto image p h) i (upto_run image p h r) below in
+    let w : Way image t (upto image p h) epoch = way image t (upto image p h) epoch i (upto_run image p h r) below (omega arith) in
     let same : w.check ≡ c.check = same_check (slice_get (checkpoints image t h) epoch) w.check c.check (check_later image t p epoch w.check h w.taken) c.taken in
     let there : check_of (checks_of (window_of image h) t) (marker_at_point (window_of image h) p t).epoch ≡ Some c.check =
     read_check image h p t i r a.reached a.entry below

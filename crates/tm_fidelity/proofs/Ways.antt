@@ -1,8 +1,9 @@
 -- A task by itself comes from a checkpoint to where it stands at each later moment of its epoch.
 use Rattle.std.proofs.Common.{◌≡◌, ℕ, ◌<◌, ◌≤◌, true, false, List, [], ◌∷◌, ◌++◌, length, drop, refl, ap, sym, ◌∙◌, subst, arith, inl, inr, Some, slice_get, length-append, append-nil, append_assoc}
-use Rattle.std.proofs.lemmas.Bool.{cases_Bool}
+use Rattle.std.proofs.lemmas.Bool.{cases_Bool, cases_lt}
 use Rattle.std.proofs.lemmas.Bool.Decides.{nat_tests}
 use Rattle.std.proofs.lemmas.List.{drop_all}
+use Rattle.std.proofs.lemmas.Option.{slice_get_within}
 use Rattle.tm_marker.specs.declared.marker.Marker.{Marker}
 use Rattle.tm_marker.specs.declared.entries.DataEntry.{DataEntry}
 use Rattle.tm_marker.specs.declared.entries.OutputEntry.{OutputEntry}
@@ -20,9 +21,10 @@ use Rattle.tm_system.specs.Telling.{made}
 use Rattle.tm_system.specs.Follows.{Follows, IsRun, Boots, GoesOn}
 use Rattle.tm_system.specs.Alone.{Alone, walk_to}
 use Rattle.tm_system.proofs.Marking.{same_standing, epochs_start, epochs_stay, backs_start}
+use Rattle.tm_system.proofs.Below.{get_front, get_last}
 use Rattle.tm_system.proofs.Walking.{walks_go_on, walkers_rise}
 use Rattle.tm_record.proofs.Consistent.{checkpoints_count}
-use Rattle.tm_fidelity.proofs.Moving.{alone_with, here, entries_more, log_more, StandsStill, moved, walker, same_place, there_after}
+use Rattle.tm_fidelity.proofs.Moving.{alone_with, here, entries_more, log_more, StandsStill, moved, walker, same_place}
 
 -- the order of markers, by their parts
 after_both : (e c p f d q g k r : ℕ) →
@@ -110,15 +112,15 @@ pub leads_here : (image : ImageView) (t first total : ℕ) (h : History) (p : Pl
 leads_here image t first total h p outs is more wanted later =
     ap (walk_to (alone_with image t first total (drop first (entries t h) ++ more)) wanted) is
 
--- the checkpoint of the task's epoch leads to where it stands
-pub record Way (image : ImageView) (t : ℕ) (h : History) : Type 0 where
+-- the checkpoint of an epoch leads to where the task stands
+pub record Way (image : ImageView) (t : ℕ) (h : History) (epoch : ℕ) : Type 0 where
   pub check : Checkpoint
-  pub taken : slice_get (checkpoints image t h) (epochs t h) ≡ Some check
+  pub taken : slice_get (checkpoints image t h) epoch ≡ Some check
   pub few : check.data_number ≤ length (entries t h)
   pub outs : List OutputEntry
-  pub leads : (total : ℕ) → Leads image t check.data_number total h (start_place check.body (epochs t h)) outs
+  pub leads : (total : ℕ) → Leads image t check.data_number total h (start_place check.body epoch) outs
 
-boot_way : (image : ImageView) (t : ℕ) → Way image t []
+boot_way : (image : ImageView) (t : ℕ) → Way image t [] 0
 unfolding checkpoints epochs backs entries
 boot_way image t = record {
   check = record { body = body_at image [] t; data_number = 0; control_number = 0 };
@@ -128,18 +130,22 @@ boot_way image t = record {
   leads = λ total. leads_here image t 0 total [] (start_place (body_at image [] t) 0) [] refl;
 }
 
-pub checks_more : (image : ImageView) (t : ℕ) (m : Moment) (h : History) → is_start t m.deed (backs t h) ≡ true →
+no_epochs : (t : ℕ) → epochs t [] ≡ 0
+unfolding epochs
+no_epochs t = refl
+
+checks_more : (image : ImageView) (t : ℕ) (m : Moment) (h : History) → is_start t m.deed (backs t h) ≡ true →
     checkpoints image t (m ∷ h) ≡ checkpoints image t h ++ checkpoint_at image t m h ∷ []
 unfolding checkpoints
 checks_more image t m h e = rw e refl
 
-pub checks_stay : (image : ImageView) (t : ℕ) (m : Moment) (h : History) → is_start t m.deed (backs t h) ≡ false →
+checks_stay : (image : ImageView) (t : ℕ) (m : Moment) (h : History) → is_start t m.deed (backs t h) ≡ false →
     checkpoints image t (m ∷ h) ≡ checkpoints image t h
 unfolding checkpoints
 checks_stay image t m h e = rw e refl
 
--- at an epoch start
-start_way : (image : ImageView) (t : ℕ) (m : Moment) (h : History) → is_start t m.deed (backs t h) ≡ true → Way image t (m ∷ h)
+-- the checkpoint of an epoch that starts
+start_way : (image : ImageView) (t : ℕ) (m : Moment) (h : History) → is_start t m.deed (backs t h) ≡ true → Way image t (m ∷ h) (epochs t (m ∷ h))
 start_way image t m h e =
     let many : epochs t (m ∷ h) ≡ length (checkpoints image t h) = epochs_start t m h e ∙ sym (checkpoints_count image t h) in
     let first : ℕ = length (entries t (m ∷ h)) in
@@ -147,7 +153,7 @@ start_way image t m h e =
       check = checkpoint_at image t m h;
       taken = ap (slice_get (checkpoints image t (m ∷ h))) many
           ∙ ap (λ cs. slice_get cs (length (checkpoints image t h))) (checks_more image t m h e)
-          ∙ there_after (checkpoints image t h) (checkpoint_at image t m h) [];
+          ∙ get_last (checkpoints image t h) (checkpoint_at image t m h);
       few = omega arith;
       outs = [];
       leads = λ total. leads_here image t first total (m ∷ h) (start_place (body_at image (m ∷ h) t) (epochs t (m ∷ h))) []
@@ -155,24 +161,38 @@ start_way image t m h e =
           (ap length (sym (drop_all first (entries t (m ∷ h)) (omega arith)))) refl);
     }
 
--- at another moment
-stay_way : (image : ImageView) (t : ℕ) (m : Moment) (h : History) → IsImage image → IsRun image h → Follows image h m → t < length image.loads →
-    is_start t m.deed (backs t h) ≡ false → Way image t h → Way image t (m ∷ h)
-stay_way image t m h i r f below e w =
-    let same : epochs t (m ∷ h) ≡ epochs t h = epochs_stay t m h e in
-    record {
-      check = w.check;
-      taken = ap (slice_get (checkpoints image t (m ∷ h))) same
-          ∙ ap (λ cs. slice_get cs (epochs t h)) (checks_stay image t m h e) ∙ w.taken;
-      few = omega (arith, w.few, ap length (entries_more t m h), length-append (entries t h) (entries_of t m.deed));
-      outs = w.outs ++ made t m.deed;
-      leads = λ total. subst (λ k. Leads image t w.check.data_number total (m ∷ h) (start_place w.check.body k) (w.outs ++ made t m.deed)) (sym same)
-          (leads_on image t w.check.data_number total m h (start_place w.check.body (epochs t h)) w.outs i r f below w.few (w.leads total));
-    }
+-- a checkpoint that was taken stays
+pub check_stays : (image : ImageView) (t k : ℕ) (c : Checkpoint) (m : Moment) (h : History) → slice_get (checkpoints image t h) k ≡ Some c →
+    slice_get (checkpoints image t (m ∷ h)) k ≡ Some c
+check_stays image t k c m h is = elim (cases_Bool (is_start t m.deed (backs t h))) [
+  | inl e ↦
+      ap (λ cs. slice_get cs k) (checks_more image t m h e)
+      ∙ get_front (checkpoints image t h) (checkpoint_at image t m h) k (slice_get_within (checkpoints image t h) k c is) ∙ is
+  | inr e ↦ ap (λ cs. slice_get cs k) (checks_stay image t m h e) ∙ is
+]
 
-pub way : (image : ImageView) (t : ℕ) (h : History) → IsImage image → IsRun image h → t < length image.loads → Way image t h
-way image t [] i Boots below = boot_way image t
-way image t (m ∷ h) i (GoesOn r f) below = elim (cases_Bool (is_start t m.deed (backs t h))) [
-  | inl e ↦ start_way image t m h e
-  | inr e ↦ stay_way image t m h i r f below e (way image t h i r below)
+-- and leads one moment on
+way_on : (image : ImageView) (t : ℕ) (m : Moment) (h : History) (epoch : ℕ) → IsImage image → IsRun image h → Follows image h m →
+    t < length image.loads → Way image t h epoch → Way image t (m ∷ h) epoch
+way_on image t m h epoch i r f below w = record {
+  check = w.check;
+  taken = check_stays image t epoch w.check m h w.taken;
+  few = omega (arith, w.few, ap length (entries_more t m h), length-append (entries t h) (entries_of t m.deed));
+  outs = w.outs ++ made t m.deed;
+  leads = λ total. leads_on image t w.check.data_number total m h (start_place w.check.body epoch) w.outs i r f below w.few (w.leads total);
+}
+
+pub way : (image : ImageView) (t : ℕ) (h : History) (epoch : ℕ) → IsImage image → IsRun image h → t < length image.loads → epoch ≤ epochs t h →
+    Way image t h epoch
+way image t [] epoch i Boots below reached =
+    subst (Way image t []) (let e : 0 ≡ epoch = omega (arith, reached, no_epochs t) in e) (boot_way image t)
+way image t (m ∷ h) epoch i (GoesOn r f) below reached = elim (cases_lt (epochs t h) epoch) [
+  | inl later ↦
+      let starts : is_start t m.deed (backs t h) ≡ true = elim (cases_Bool (is_start t m.deed (backs t h))) [
+        | inl e ↦ e
+        | inr e ↦ absurd (omega (arith, later, reached, epochs_stay t m h e))
+      ] in
+      subst (Way image t (m ∷ h)) (let e : epochs t (m ∷ h) ≡ epoch = omega (arith, later, reached, epochs_start t m h starts) in e)
+      (start_way image t m h starts)
+  | inr before ↦ way_on image t m h epoch i r f below (way image t h epoch i r below before)
 ]
