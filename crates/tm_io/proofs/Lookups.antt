@@ -1,5 +1,8 @@
 -- Look-ups by name, and what one write at a name changes.
 use Rattle.std.proofs.Common.{◌≡◌, ◌≢◌, ℕ, ◌<◌, ◌≤◌, Bool, true, false, cond, nat_lt, List, [], ◌∷◌, ◌++◌, Option, Some, None, length, get_or, find, position, slice_set, max, ◌⊎◌, inl, inr, refl, sym, ◌∙◌, ap, arith}
+use Rattle.std.specs.Prelude.{if◌then◌else◌}
+use Rattle.std.specs.Str.{bytes_eq}
+use Rattle.std.proofs.Math.Path.{fun_ext}
 use Rattle.std.specs.List.{position_or_len, slice_get}
 use Rattle.std.specs.Bool.{Decides}
 use Rattle.std.specs.Option.{option_or}
@@ -8,6 +11,7 @@ use Rattle.std.proofs.lemmas.List.Folds.{find_at, find-set, find_past, find-appe
 use Rattle.std.proofs.lemmas.List.Quantifiers.{position-Some}
 use Rattle.std.proofs.lemmas.Option.{cond_some, slice_get_read, slice_get_past}
 use Rattle.std.proofs.lemmas.Slice.Eq.{bytes_eq-Decides}
+use Rattle.tm_io.specs.Shelf.{held}
 use Rattle.tm_io.specs.NamedRooms.{NamedRoom, has_name, content_in, room_in, made_room, ChangesOnly}
 
 -- the room is the first of the name, at this place
@@ -140,3 +144,21 @@ every_room_stays old new name content change other =
       | inl same ↦ rw same change.has_room
       | inr apart ↦ change.rooms_stay other apart
     ]
+
+held_at : (old new : List NamedRoom) (name bytes : List ℕ) (room : Option ℕ) → ChangesOnly old new name (Some bytes) room
+    → (other : List ℕ) (same : Bool) → bytes_eq other name ≡ same
+    → content_in new other ≡ (if same then Some bytes else content_in old other)
+held_at old new name bytes room change other true is = rw ((bytes_eq-Decides other name).0 is) change.has_content
+held_at old new name bytes room change other false is =
+    change.contents_stay other (λ same. let wrong : bytes_eq other name ≡ true = (bytes_eq-Decides other name).1 same in cc)
+
+-- a put leaves the contents as they were, but for the name's
+pub content_held : (old new : List NamedRoom) (name bytes : List ℕ) (room : Option ℕ)
+    → ChangesOnly old new name (Some bytes) room
+    → content_in new ≡ held (content_in old) name bytes
+content_held old new name bytes room change = fun_ext (λ other. held_at old new name bytes room change other (bytes_eq other name) refl)
+
+-- a put leaves each room
+pub rooms_same : (old new : List NamedRoom) (name : List ℕ) (content : Option (List ℕ))
+    → ChangesOnly old new name content (room_in old name) → room_in new ≡ room_in old
+rooms_same old new name content change = fun_ext (every_room_stays old new name content change)

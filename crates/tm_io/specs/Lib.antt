@@ -1,6 +1,7 @@
 pub mod Counts
 pub mod NamedRooms
 pub mod Faults
-pub mod Gained
+pub mod Shelf
+pub mod Sink
 pub mod ShelfState
 pub mod SinkState

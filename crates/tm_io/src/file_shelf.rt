@@ -61,27 +61,16 @@ impl<R: Files> FileShelf<R> {
 }
 
 impl<R: Files<File = File> + Alloc> Shelf for FileShelf<R> {
-    ghost use Rattle.std.specs.Prelude.{false, None, if◌then◌else◌, is_ok};
-    ghost use Rattle.tm_io.specs.Faults.{Faults};
+    ghost use Rattle.std.specs.Prelude.{if◌then◌else◌, is_ok};
+    ghost use Rattle.tm_io.specs.Faults.{Faults, untold_shelf};
 
-    ghost tells = { λ _. false };
-
-    ghost content = { λ _ _. None };
-
-    ghost gets = { λ s. s.gets };
-
-    ghost puts = { λ s. s.puts };
-
-    ghost calm = { λ _. false };
-
-    ghost room = { λ _ _. None };
+    ghost seen = { untold_shelf };
 
     fn get(&mut self, name: &str, limit: u64, into: &mut Vec<u8>) -> Result<(), GetFault>
         ensures within { OnOk result (length into.new.items ≤ limit) }
         ensures into_stays { OnErr result (into.new.items ≡ into.old.items) }
         ensures stays { result ≢ Err GetFault.Failed → self.new ≡ self.old }
         ensures failed { result ≡ Err GetFault.Failed → self.new ≡ record self.old { gets = counted self.old.gets } }
-        ensures never_falls { self.old.gets ≤ self.new.gets }
     {
         let read = self.read(name, limit, into);
         if read == Err(GetFault::Failed) {
@@ -92,7 +81,6 @@ impl<R: Files<File = File> + Alloc> Shelf for FileShelf<R> {
 
     fn put(&mut self, name: &str, bytes: &[u8]) -> Result<(), PutFault>
         ensures counts { self.new ≡ record self.old { puts = if is_ok result then self.old.puts else counted self.old.puts } }
-        ensures never_falls { self.old.puts ≤ self.new.puts }
     {
         if put_whole(&self.rt, name, bytes).is_err() {
             self.puts = self.puts.saturating_add(1);

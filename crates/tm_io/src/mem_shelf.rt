@@ -1,8 +1,8 @@
 //! A shelf in memory.
 
-ghost use Rattle.std.specs.Prelude.{◌≡◌, ◌≢◌, ℕ, ◌<◌, ◌≤◌, ◌↔◌, List, [], Some, None, false, length, IsTrue, IsErr, IsSomeAnd, IfOk, OnOk, OnErr, if◌then◌else◌};
+ghost use Rattle.std.specs.Prelude.{◌≡◌, ◌≢◌, ℕ, ◌<◌, ◌≤◌, ◌↔◌, List, [], Some, None, false, length, IsTrue, IsErr, IsSomeAnd, IfOk, OnOk, OnErr, if◌then◌else◌, vec_capacity};
 ghost use Rattle.std.specs.Option.{option_copied};
-ghost use Rattle.tm_io.specs.Counts.{Rose, counted, is_listed};
+ghost use Rattle.tm_io.specs.Counts.{counted, is_listed};
 ghost use Rattle.tm_io.specs.NamedRooms.{ChangesOnly, content_in, room_in, made_room};
 
 use crate::counts::is_listed;
@@ -92,7 +92,6 @@ impl MemShelf {
     fn get_fault(&mut self) -> GetFault
         ensures fault { result ≡ GetFault.Failed }
         ensures gets { self.new ≡ record self.old { gets = counted self.old.gets } }
-        ensures never_falls { self.old.gets ≤ self.new.gets }
     {
         self.gets = self.gets.saturating_add(1);
         GetFault::Failed
@@ -100,21 +99,12 @@ impl MemShelf {
 }
 
 impl Shelf for MemShelf {
-    ghost use Rattle.std.specs.Prelude.{ℕ, ◌<◌, ◌≤◌, ◌==◌, List, true, length, IsTrue};
+    ghost use Rattle.std.specs.Prelude.{ℕ, ◌<◌, ◌≤◌, List, length, IsTrue};
     ghost use Rattle.tm_io.specs.NamedRooms.{content_in, room_in};
-    ghost use Rattle.tm_io.specs.ShelfState.{ShelfState, refuses_get, refuses_put};
+    ghost use Rattle.tm_io.specs.Shelf.{held};
+    ghost use Rattle.tm_io.specs.ShelfState.{ShelfState, shelf_seen, refuses_get, refuses_put};
 
-    ghost tells = { λ _. true };
-
-    ghost content = { λ s. content_in s.rooms };
-
-    ghost gets = { λ s. s.gets };
-
-    ghost puts = { λ s. s.puts };
-
-    ghost calm = { λ s. length s.fail == 0 };
-
-    ghost room = { λ s. room_in s.rooms };
+    ghost seen = { shelf_seen };
 
     fn get(&mut self, name: &str, limit: u64, into: &mut Vec<u8>) -> Result<(), GetFault>
         // The call fails exactly where it is made to fail or the name isn't there.
@@ -124,11 +114,13 @@ impl Shelf for MemShelf {
         ensures found { OnOk result (content_in self.old.rooms name.now ≡ Some into.new.items) }
         ensures within { OnOk result (length into.new.items ≤ limit) }
         ensures into_stays { OnErr result (into.new.items ≡ into.old.items) }
+        // There is never want of memory where `into` has room enough.
+        ensures memory { result ≡ Err GetFault.Memory →
+            IsSomeAnd (content_in self.old.rooms name.now) (λ bytes. vec_capacity into.old < length bytes) }
         ensures counts { self.new ≡ record self.old {
           calls = counted self.old.calls;
           gets = if refuses_get self.old name.now then counted self.old.gets else self.old.gets;
         } }
-        ensures never_falls { self.old.gets ≤ self.new.gets }
     {
         if self.next_call_fails() {
             return Err(self.get_fault());
@@ -146,16 +138,14 @@ impl Shelf for MemShelf {
     fn put(&mut self, name: &str, bytes: &[u8]) -> Result<(), PutFault>
         // The call fails exactly where it is made to fail or the room is short.
         ensures failed { IsErr result ↔ IsTrue (refuses_put self.old name.now bytes.now) }
-        ensures ok { OnOk result (ChangesOnly self.old.rooms self.new.rooms name.now
-            (Some bytes.now) (room_in self.old.rooms name.now)) }
+        ensures ok { OnOk result (content_in self.new.rooms ≡ held (content_in self.old.rooms) name.now bytes.now) }
         ensures err { OnErr result (self.new.rooms ≡ self.old.rooms) }
         ensures counts { self.new ≡ record self.old {
           calls = counted self.old.calls;
           puts = if refuses_put self.old name.now bytes.now then counted self.old.puts else self.old.puts;
           rooms = self.new.rooms;
         } }
-        ensures rooms_stay { (other : List ℕ) → room_in self.new.rooms other ≡ room_in self.old.rooms other }
-        ensures never_falls { self.old.puts ≤ self.new.puts }
+        ensures rooms_stay { room_in self.new.rooms ≡ room_in self.old.rooms }
     {
         if self.next_call_fails() || !self.rooms.put(name, bytes) {
             self.puts = self.puts.saturating_add(1);

@@ -1,8 +1,7 @@
 //! A sink in memory.
 
 ghost use Rattle.std.specs.Prelude.{◌≡◌, ◌+◌, ◌-◌, ◌<◌, ◌≤◌, ◌==◌, ◌++◌, ◌↔◌, [], Some, length, take, min, max, IsTrue, IsErr, IfOk, OnOk, OnErr};
-ghost use Rattle.tm_io.specs.Counts.{Rose, counted};
-ghost use Rattle.tm_io.specs.Gained.{Gained};
+ghost use Rattle.tm_io.specs.Counts.{counted};
 
 use crate::counts::is_listed;
 use crate::{Failed, Memory, Sink};
@@ -71,16 +70,10 @@ impl MemSink {
 }
 
 impl Sink for MemSink {
-    ghost use Rattle.std.specs.Prelude.{length, ◌==◌, Some, true};
-    ghost use Rattle.tm_io.specs.SinkState.{SinkState, refuses_write};
+    ghost use Rattle.std.specs.Prelude.{length};
+    ghost use Rattle.tm_io.specs.SinkState.{SinkState, sink_seen, refuses_write};
 
-    ghost bytes = { λ s. Some s.bytes };
-
-    ghost faults = { λ s. s.faults };
-
-    ghost calm = { λ s. length s.fail == 0 };
-
-    ghost room = { λ s. s.room };
+    ghost seen = { sink_seen };
 
     fn write(&mut self, piece: &[u8]) -> Result<usize, Failed>
         // The piece is refused exactly where the write is made to fail or the room is short.
@@ -97,7 +90,6 @@ impl Sink for MemSink {
         }) }
 
         ensures goes_on { IfOk result (λ n. 0 < length piece.now → 0 < n) }
-        ensures never_falls { self.old.faults ≤ self.new.faults }
     {
         self.calls = self.calls.saturating_add(1);
         if is_listed(&self.fail, self.calls) || piece.len() > self.room {

@@ -46,21 +46,15 @@ impl<R: Print> OutSink<R> {
 }
 
 impl<R: Print> Sink for OutSink<R> {
-    ghost use Rattle.std.specs.Prelude.{false, None, if◌then◌else◌, is_ok};
+    ghost use Rattle.std.specs.Prelude.{if◌then◌else◌, is_ok};
+    ghost use Rattle.tm_io.specs.Faults.{untold_sink};
 
-    ghost bytes = { λ _. None };
-
-    ghost faults = { λ faults. faults };
-
-    ghost calm = { λ _. false };
-
-    ghost room = { λ _. 0 };
+    ghost seen = { untold_sink };
 
     fn write(&mut self, piece: &[u8]) -> Result<usize, Failed>
         ensures within { IfOk result (λ n. n ≤ length piece.now) }
         ensures goes_on { IfOk result (λ n. 0 < length piece.now → 0 < n) }
         ensures counts { self.new ≡ (if is_ok result then self.old else counted self.old) }
-        ensures never_falls { self.old ≤ self.new }
     {
         match self.write_uninterrupted(piece) {
             Ok(n) if n > 0 || piece.is_empty() => Ok(n),

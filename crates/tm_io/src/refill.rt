@@ -1,6 +1,6 @@
 //! A list of the caller's, filled anew.
 
-ghost use Rattle.std.specs.Prelude.{◌≡◌, OnOk, OnErr};
+ghost use Rattle.std.specs.Prelude.{◌≡◌, ◌<◌, length, vec_capacity, OnOk, OnErr};
 
 use crate::Memory;
 
@@ -8,6 +8,7 @@ use crate::Memory;
 pub(crate) fn refill(into: &mut Vec<u8>, bytes: &[u8]) -> Result<(), Memory>
     ensures ok { OnOk result (into.new.items ≡ bytes.now) }
     ensures err { OnErr result (into.new.items ≡ into.old.items) }
+    ensures full { OnErr result (vec_capacity into.old < length bytes.now) }
 {
     into.reserve(bytes.len().saturating_sub(into.len()))?;
     into.clear();

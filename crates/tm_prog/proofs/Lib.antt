@@ -1,4 +1,3 @@
-pub mod Gains
 pub mod TellerSteps
 pub mod Endings
 pub mod Noting
@@ -6,4 +5,5 @@ pub mod Starting
 pub mod Traced
 pub mod Stretching
 pub mod Delivering
-pub mod Reading
+pub mod Answering
+pub mod Consequences

@@ -1,13 +1,9 @@
 -- What the words of a call ask for.
-use Rattle.std.specs.Prelude.{ℕ, Bool, false, not, ◌&&◌, ◌==◌, if◌then◌else◌, List, [], ◌∷◌, map, codes, bytes_eq, String, string_bytes, Option, Some, None}
+use Rattle.std.specs.Prelude.{◌≡◌, ℕ, Bool, true, false, not, ◌&&◌, ◌==◌, if◌then◌else◌, List, [], ◌∷◌, map, codes, bytes_eq, String, string_bytes, Option, Some, None}
 use Rattle.std.specs.declared.alloc.Global.{Global}
-
--- what the program can be asked for
-pub data Command : Type 0 where
-  -- the text of the whole run of a plan on an image, each in the file of this name
-  Trace : (image : List ℕ) → (plan : List ℕ) → Command
-  -- the dump of that run's window, put under a name
-  Record : (image : List ℕ) → (plan : List ℕ) → (dump : List ℕ) → Command
+use Rattle.tm_prog.specs.declared.command.Command.{Command}
+use Rattle.tm_prog.specs.declared.command.Command.TheVariants.{Trace, Record}
+use Rattle.tm_prog.specs.Made.{MadeView}
 
 -- the bytes of each word
 abbrev pub texts : List (String Global) → List (List ℕ)
@@ -26,7 +22,17 @@ command_of (word ∷ image ∷ plan ∷ dump ∷ []) =
     if bytes_eq word (codes "record") && is_name image && is_name plan && is_name dump then Some (Record image plan dump) else None
 command_of _ = None
 
--- the name under which a command puts what it made, where it puts anything
-abbrev pub puts_under : Command → Option (List ℕ)
-puts_under (Trace image plan) = None
-puts_under (Record image plan dump) = Some dump
+-- the names that a command puts, in this order
+abbrev pub names_put : Command → List (List ℕ)
+names_put (Trace image plan) = []
+names_put (Record image plan dump) = dump ∷ []
+
+-- whether a command prints a text
+abbrev pub prints_text : Command → Bool
+prints_text (Trace image plan) = true
+prints_text (Record image plan dump) = false
+
+-- what was made is put under the names of the command, and has a text only where the command prints one
+pub record IsMadeFor (command : Command) (made : MadeView) : Type 0 where
+  pub names : map (λ p. p.name) made.puts ≡ names_put command
+  pub silent : prints_text command ≡ false → made.text ≡ []

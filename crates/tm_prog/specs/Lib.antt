@@ -1,7 +1,13 @@
-pub mod Command
-pub mod Answer
+pub mod Class
 pub mod Status
-pub mod Reading
+pub mod Made
+pub mod Reads
+pub mod Command
+pub mod Files
+pub mod TraceCommand
+pub mod RecordCommand
+pub mod Answer
+pub mod World
 pub mod Outcome
 pub mod Teller
 pub mod Tracing

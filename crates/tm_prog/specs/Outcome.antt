@@ -1,84 +1,83 @@
--- How a status, the sink and the plain answer belong together, and when a call is quiet.
-use Rattle.std.specs.Prelude.{◌≡◌, ◌≢◌, ℕ, ◌<◌, ◌≤◌, ◌⊎◌, ◌++◌, Bool, List, length, Option, Some, IsTrue, IsSome, IsSomeAnd}
-use Rattle.tm_io.specs.Counts.{Rose}
-use Rattle.tm_io.specs.Gained.{Gained}
+-- How a status, the plain answer and the world before and after a call belong together.
+use Rattle.std.specs.Prelude.{◌≡◌, ◌≢◌, ℕ, ◌⊎◌, Bool, List, Option, Some, None, Result, Ok, Err, IsTrue, All}
+use Rattle.tm_io.specs.Counts.{Rose, counted}
 use Rattle.tm_prog.specs.declared.status.Status.{Status}
-use Rattle.tm_prog.specs.declared.status.Status.TheVariants as status
-use Rattle.tm_prog.specs.Answer.{Plain, Refused, Printed, Stored}
+use Rattle.tm_prog.specs.declared.status.Status.TheVariants.{Ok as OkStatus, Words, Memory}
+use Rattle.tm_prog.specs.declared.command.Command.{Command}
+use Rattle.tm_prog.specs.Class.{Class, class_of, Done, HalfDone, Unasked, Unread, Starved, Refusal}
+use Rattle.tm_prog.specs.Made.{MadeView}
+use Rattle.tm_prog.specs.Reads.{IsUnmade}
+use Rattle.tm_prog.specs.Command.{names_put, prints_text, IsMadeFor}
+use Rattle.tm_prog.specs.Answer.{answer_of}
+use Rattle.tm_prog.specs.World.{World, all_done, IsHalfDone}
 
--- the sink gained a proper beginning of the text
-abbrev pub GainedPart : Option (List ℕ) → Option (List ℕ) → List ℕ → Type 0
-GainedPart before now text =
-    (part : List ℕ) × (rest : List ℕ) × (text ≡ part ++ rest) × (0 < length rest) × Gained before now part
+-- this was made for the command, and is the plain answer where the shelf tells its contents
+abbrev pub IsAnswer : Option Command → MadeView → World → Type 0
+IsAnswer None made before = ⊥
+IsAnswer (Some command) made before =
+    IsMadeFor command made × (IsTrue before.shelf.tells → answer_of (Some command) before.shelf.content ≡ Some (Ok made))
 
--- the contents under all names stay
-abbrev pub ContentsStay : (List ℕ → Option (List ℕ)) → (List ℕ → Option (List ℕ)) → Type 0
-ContentsStay before now = (name : List ℕ) → now name ≡ before name
+-- all of the plain answer was done; or a part of it, up to a put or a write that failed; the words ask for
+-- nothing, and nothing changed; or nothing was made, and at most a failed get was counted
+abbrev pub Ends : Class → Status → Option Command → World → World → Type 0
+Ends Done status command before after = (made : MadeView) × IsAnswer command made before × (after ≡ all_done made before)
+Ends HalfDone status command before after = (made : MadeView) × IsAnswer command made before × IsHalfDone made before after
+Ends Unasked status command before after = (after ≡ before) × (command ≡ None) × (status ≡ Words)
+Ends class status command before after =
+    IsUnmade class status (answer_of command before.shelf.content) before.shelf after.shelf × (after.sink ≡ before.sink)
 
--- the contents under all other names stay
-abbrev pub OthersStay : List ℕ → (List ℕ → Option (List ℕ)) → (List ℕ → Option (List ℕ)) → Type 0
-OthersStay name before now = (other : List ℕ) → other ≢ name → now other ≡ before other
+-- the counts of the shelf's gets and puts and of the sink's faults are as before
+pub record CountsStay (before after : World) : Type 0 where
+  pub gets : after.shelf.gets ≡ before.shelf.gets
+  pub puts : after.shelf.puts ≡ before.shelf.puts
+  pub faults : after.sink.faults ≡ before.sink.faults
 
--- the sink and the contents of the shelf, before a call and after it
-pub record Edges : Type 0 where
-  pub sink_before : Option (List ℕ)
-  pub sink_now : Option (List ℕ)
-  pub content_before : List ℕ → Option (List ℕ)
-  pub content_now : List ℕ → Option (List ℕ)
+-- one failed get, put or write was counted, once
+pub record GetCounted (before after : World) : Type 0 where
+  pub gets : after.shelf.gets ≡ counted before.shelf.gets
+  pub puts : after.shelf.puts ≡ before.shelf.puts
+  pub faults : after.sink.faults ≡ before.sink.faults
 
--- neither the sink nor any content changed
-pub record AreAsBefore (e : Edges) : Type 0 where
-  pub sink : e.sink_now ≡ e.sink_before
-  pub contents : ContentsStay e.content_before e.content_now
+pub record PutCounted (before after : World) : Type 0 where
+  pub gets : after.shelf.gets ≡ before.shelf.gets
+  pub puts : after.shelf.puts ≡ counted before.shelf.puts
+  pub faults : after.sink.faults ≡ before.sink.faults
 
--- the sink gained the text, or the name holds the bytes, and nothing else changed
-abbrev pub IsDelivered : Plain → Edges → Type 0
-IsDelivered (Refused status) e = ⊥
-IsDelivered (Printed text) e = Gained e.sink_before e.sink_now text × ContentsStay e.content_before e.content_now
-IsDelivered (Stored name bytes) e =
-    (e.content_now name ≡ Some bytes) × OthersStay name e.content_before e.content_now × (e.sink_now ≡ e.sink_before)
+pub record WriteCounted (before after : World) : Type 0 where
+  pub gets : after.shelf.gets ≡ before.shelf.gets
+  pub puts : after.shelf.puts ≡ before.shelf.puts
+  pub faults : after.sink.faults ≡ counted before.sink.faults
 
--- after a fault of writing: the sink gained a proper beginning of the text, or what the name holds is
--- open, and nothing else changed
-abbrev pub IsHalfDelivered : Plain → Edges → Type 0
-IsHalfDelivered (Refused status) e = ⊥
-IsHalfDelivered (Printed text) e = GainedPart e.sink_before e.sink_now text × ContentsStay e.content_before e.content_now
-IsHalfDelivered (Stored name bytes) e = OthersStay name e.content_before e.content_now × (e.sink_now ≡ e.sink_before)
+-- only the two faults count anything: a fault of reading one get, a fault of writing one put or one write
+abbrev pub Counts : Class → World → World → Type 0
+Counts Unread before after = GetCounted before after
+Counts HalfDone before after = PutCounted before after ⊎ WriteCounted before after
+Counts _ before after = CountsStay before after
 
--- the status is the plain answer to the call, with what became of the sink and of the contents: what the
--- answer says, a part of it after a fault of writing, and nothing otherwise. A fault of reading and want of
--- memory come beside any answer.
-abbrev pub Answers : Status → Option Plain → Edges → Type 0
-Answers status.Ok plain e = (answer : Plain) × (plain ≡ Some answer) × IsDelivered answer e
-Answers status.WriteFault plain e = (answer : Plain) × (plain ≡ Some answer) × IsHalfDelivered answer e
-Answers status.ReadFault plain e = AreAsBefore e
-Answers status.Memory plain e = AreAsBefore e
-Answers status.Words plain e = (plain ≡ Some (Refused status.Words)) × AreAsBefore e
-Answers (status.Image fault) plain e = (plain ≡ Some (Refused (status.Image fault))) × AreAsBefore e
-Answers (status.Plan fault) plain e = (plain ≡ Some (Refused (status.Plan fault))) × AreAsBefore e
-Answers (status.TooLong file) plain e = (plain ≡ Some (Refused (status.TooLong file))) × AreAsBefore e
+-- what no call changes
+pub record Stays (before after : World) : Type 0 where
+  pub tells : after.shelf.tells ≡ before.shelf.tells
+  pub calm : after.shelf.calm ≡ before.shelf.calm
+  pub rooms : after.shelf.room ≡ before.shelf.room
+  pub sink_calm : after.sink.calm ≡ before.sink.calm
+
+-- the contents under all names stay, but for those that the command puts
+abbrev pub OthersStay : Option Command → World → World → Type 0
+OthersStay None before after = after.shelf.content ≡ before.shelf.content
+OthersStay (Some command) before after =
+    (name : List ℕ) → All (λ put. name ≢ put) (names_put command) → after.shelf.content name ≡ before.shelf.content name
+
+-- the words ask for no text
+abbrev pub IsSilent : Option Command → Type 0
+IsSilent None = Unit {0}
+IsSilent (Some command) = ¬ IsTrue (prints_text command)
 
 -- no count of the shelf or of the sink rose in the call
-pub record NoneRose (gets_before gets_now puts_before puts_now faults_before faults_now : ℕ) : Type 0 where
-  pub gets : ¬ Rose gets_before gets_now
-  pub puts : ¬ Rose puts_before puts_now
-  pub faults : ¬ Rose faults_before faults_now
-
--- as the call begins, the shelf is calm, and there is room for the answer: in a sink that tells its bytes
--- and is calm for a text, under the name for bytes to put
-abbrev pub IsReady : Plain → Bool → (List ℕ → Option ℕ) → Option (List ℕ) → Bool → ℕ → Type 0
-IsReady (Refused status) shelf_calm rooms sink_bytes sink_calm sink_room = ⊥
-IsReady (Printed text) shelf_calm rooms sink_bytes sink_calm sink_room =
-    IsTrue shelf_calm × IsSome sink_bytes × IsTrue sink_calm × (length text ≤ sink_room)
-IsReady (Stored name bytes) shelf_calm rooms sink_bytes sink_calm sink_room =
-    IsTrue shelf_calm × IsSomeAnd (rooms name) (λ most. length bytes ≤ most)
-
--- the answer is no refusal
-abbrev pub IsMade : Plain → Type 0
-IsMade (Refused status) = ⊥
-IsMade (Printed text) = Unit {0}
-IsMade (Stored name bytes) = Unit {0}
+pub record NoneRose (before after : World) : Type 0 where
+  pub gets : ¬ Rose before.shelf.gets after.shelf.gets
+  pub puts : ¬ Rose before.shelf.puts after.shelf.puts
+  pub faults : ¬ Rose before.sink.faults after.sink.faults
 
 -- what was asked for was done, or there was no memory for it
 abbrev pub IsDone : Status → Type 0
-IsDone s = (s ≡ status.Ok) ⊎ (s ≡ status.Memory)
+IsDone status = (status ≡ OkStatus) ⊎ (status ≡ Memory)

@@ -1,103 +1,94 @@
-//! How the files that a call names are read.
+//! How the files that a call names are got and read.
 
-ghost use Rattle.std.specs.Prelude.{◌≡◌, ◌≢◌, ℕ, ◌^◌, ◌<◌, ◌≤◌, Ok, Err, Some, length, IsTrue, IsSome, IsSomeAnd, IfOk, IfErr};
-ghost use Rattle.tm_io.specs.Counts.{Rose};
+ghost use Rattle.std.specs.Prelude.{◌≡◌, ℕ, ◌^◌, ◌<◌, ◌≤◌, List, Result, length, IfOk};
 ghost use Rattle.tm_prog.specs.declared.status.Status.{Status};
-ghost use Rattle.tm_prog.specs.Answer.{image_in, script_in};
-ghost use Rattle.tm_prog.specs.Reading.{OnlyGets, IsGetFaultOf, IsUnreadOf, Unless, image_status, plan_status};
+ghost use Rattle.tm_prog.specs.Reads.{CanRefuse, Reads, Says, file_in};
 
 use crate::Status;
+use crate::command::Name;
 use crate::limits::{IMAGE_LIMIT, PLAN_LIMIT};
 use std::alloc::Global;
-use tm_image::{Image, ImageFault, Plan, PlanFault, Reason, read_image, read_plan};
+use tm_image::{Image, Plan, Reason, read_image, read_plan};
 use tm_io::{GetFault, Shelf};
 
-/// The bytes of the file, of which there are at most `limit`.
-fn bytes_of<F: Shelf>(
+/// A kind of file: how long one may be, and what its bytes say, beside what was read before it.
+pub(crate) trait FileKind<C> {
+    ghost LIMIT: { ℕ };
+
+    /// The most bytes of such a file.
+    const LIMIT: u64;
+
+    // The value that the bytes spell, or the status that refuses them.
+    ghost reading: { C → List ℕ → Result Self Status };
+
+    // What each value keeps.
+    ghost sound: { Self → Type 0 };
+
+    fn read(alloc: Global, beside: &C, bytes: &[u8]) -> Result<Self, Status>
+        requires { length bytes.now ≤ LIMIT }
+        ensures read { Says (reading beside.now bytes.now) result }
+        ensures sound { IfOk result sound };
+}
+
+impl FileKind<()> for Image {
+    ghost use Rattle.tm_image.specs.Image.{IsImage};
+    ghost use Rattle.tm_prog.specs.declared.limits.TheConstants.{IMAGE_LIMIT};
+    ghost use Rattle.tm_prog.specs.Files.{image_said};
+
+    ghost LIMIT = { IMAGE_LIMIT };
+
+    const LIMIT: u64 = IMAGE_LIMIT;
+
+    ghost reading = { λ _. image_said };
+
+    ghost sound = { IsImage };
+
+    fn read(alloc: Global, _beside: &(), bytes: &[u8]) -> Result<Image, Status> {
+        read_image(alloc, bytes).map_err(|fault| match fault.reason {
+            Reason::Memory => Status::Memory,
+            _ => Status::Image(fault),
+        })
+    }
+}
+
+impl FileKind<()> for Plan {
+    ghost use Rattle.std.specs.Prelude.{length, ◌^◌, ◌<◌};
+    ghost use Rattle.tm_prog.specs.declared.limits.TheConstants.{PLAN_LIMIT};
+    ghost use Rattle.tm_prog.specs.Files.{script_said};
+
+    ghost LIMIT = { PLAN_LIMIT };
+
+    const LIMIT: u64 = PLAN_LIMIT;
+
+    ghost reading = { λ _. script_said };
+
+    ghost sound = { λ plan. length plan < 2 ^ 32 };
+
+    fn read(alloc: Global, _beside: &(), bytes: &[u8]) -> Result<Plan, Status> {
+        read_plan(alloc, bytes).map_err(|fault| match fault.reason {
+            Reason::Memory => Status::Memory,
+            _ => Status::Plan(fault),
+        })
+    }
+}
+
+/// What the file with this number, from 1, says.
+pub(crate) fn read_file<V: FileKind<C>, C, F: Shelf>(
     alloc: Global,
     shelf: &mut F,
-    name: &str,
-    limit: u64,
     number: u8,
-) -> Result<Vec<u8>, Status>
-    ensures shelf { OnlyGets F.tells F.content F.gets F.puts F.calm F.room shelf.old shelf.new }
-    ensures within { IfOk result (λ bytes. length bytes.items ≤ limit) }
-    ensures found { IsTrue (F.tells shelf.old) →
-        IfOk result (λ bytes. F.content shelf.old name.now ≡ Some bytes.items) }
-    ensures too_long { IsTrue (F.tells shelf.old) → (file : ℕ) →
-        result ≡ Err (Status.TooLong file) →
-        IsSomeAnd (F.content shelf.old name.now) (λ bytes. limit < length bytes) }
-    ensures only { IfErr result (IsGetFaultOf number) }
-    ensures counted { result ≡ Err Status.ReadFault → Rose (F.gets shelf.old) (F.gets shelf.new) }
-    ensures calm { IsTrue (F.tells shelf.old) → IsTrue (F.calm shelf.old) →
-        IsSome (F.content shelf.old name.now) → result ≢ Err Status.ReadFault }
+    name: &Name<'_>,
+    beside: &C,
+) -> Result<V, Status>
+    requires { CanRefuse (Status.TooLong number) }
+    ensures read { Reads (file_in V.LIMIT number (V.reading beside.now) ((F.seen shelf.old).content name.now)) (F.seen shelf.old) (F.seen shelf.new) result }
+    ensures sound { IfOk result V.sound }
 {
     let mut bytes = Vec::new(alloc);
-    match shelf.get(name, limit, &mut bytes) {
-        Ok(()) => Ok(bytes),
+    match shelf.get(name.text(), V::LIMIT, &mut bytes) {
+        Ok(()) => V::read(alloc, beside, bytes.as_slice()),
         Err(GetFault::Failed) => Err(Status::ReadFault),
         Err(GetFault::TooLong) => Err(Status::TooLong(number)),
         Err(GetFault::Memory) => Err(Status::Memory),
     }
-}
-
-/// The status for an image's text that was refused.
-fn image_status(fault: ImageFault) -> Status
-    ensures { result ≡ image_status fault fault.reason }
-{
-    match fault.reason {
-        Reason::Memory => Status::Memory,
-        _ => Status::Image(fault),
-    }
-}
-
-/// The status for a plan's text that was refused.
-fn plan_status(fault: PlanFault) -> Status
-    ensures { result ≡ plan_status fault fault.reason }
-{
-    match fault.reason {
-        Reason::Memory => Status::Memory,
-        _ => Status::Plan(fault),
-    }
-}
-
-/// The image in the first file.
-pub(crate) fn image_file<F: Shelf>(
-    alloc: Global,
-    shelf: &mut F,
-    name: &str,
-) -> Result<Image, Status>
-    ensures shelf { OnlyGets F.tells F.content F.gets F.puts F.calm F.room shelf.old shelf.new }
-    ensures read { IsTrue (F.tells shelf.old) →
-        IfOk result (λ image.
-        IsSomeAnd (F.content shelf.old name.now) (λ bytes. image_in bytes ≡ Ok image)) }
-    ensures refused { IsTrue (F.tells shelf.old) →
-        IfErr result (λ status. Unless status
-        (IsSomeAnd (F.content shelf.old name.now) (λ bytes. image_in bytes ≡ Err status))) }
-    ensures only { IfErr result (IsUnreadOf 1) }
-    ensures counted { result ≡ Err Status.ReadFault → Rose (F.gets shelf.old) (F.gets shelf.new) }
-    ensures calm { IsTrue (F.tells shelf.old) → IsTrue (F.calm shelf.old) →
-        IsSome (F.content shelf.old name.now) → result ≢ Err Status.ReadFault }
-{
-    let bytes = bytes_of(alloc, shelf, name, IMAGE_LIMIT, 1)?;
-    read_image(alloc, bytes.as_slice()).map_err(image_status)
-}
-
-/// The plan in the second file.
-pub(crate) fn plan_file<F: Shelf>(alloc: Global, shelf: &mut F, name: &str) -> Result<Plan, Status>
-    ensures shelf { OnlyGets F.tells F.content F.gets F.puts F.calm F.room shelf.old shelf.new }
-    ensures read { IsTrue (F.tells shelf.old) →
-        IfOk result (λ plan.
-        IsSomeAnd (F.content shelf.old name.now) (λ bytes. script_in bytes ≡ Ok plan)) }
-    ensures refused { IsTrue (F.tells shelf.old) →
-        IfErr result (λ status. Unless status
-        (IsSomeAnd (F.content shelf.old name.now) (λ bytes. script_in bytes ≡ Err status))) }
-    ensures few { IfOk result (λ plan. length plan < 2 ^ 32) }
-    ensures only { IfErr result (IsUnreadOf 2) }
-    ensures counted { result ≡ Err Status.ReadFault → Rose (F.gets shelf.old) (F.gets shelf.new) }
-    ensures calm { IsTrue (F.tells shelf.old) → IsTrue (F.calm shelf.old) →
-        IsSome (F.content shelf.old name.now) → result ≢ Err Status.ReadFault }
-{
-    let bytes = bytes_of(alloc, shelf, name, PLAN_LIMIT, 2)?;
-    read_plan(alloc, bytes.as_slice()).map_err(plan_status)
 }

@@ -4,7 +4,7 @@ ghost use Rattle.std.specs.Prelude.{◌≡◌, ◌^◌, ◌<◌, [], All, IfOk, 
 ghost use Rattle.tm_image.specs.Image.{ImageView};
 ghost use Rattle.tm_image.specs.Plan.{IsSlice};
 ghost use Rattle.tm_record.specs.StandsFor.{StandsFor};
-ghost use Rattle.tm_prog.specs.Answer.{dump_of_run};
+ghost use Rattle.tm_prog.specs.RecordCommand.{dump_of_run};
 
 use std::alloc::{AllocError, Global};
 use tm_dump::write_dump;

@@ -1,0 +1,281 @@
+-- What follows from how a call ended, by its class alone.
+use Rattle.std.proofs.Common.{◌≡◌, ◌≢◌, ℕ, ◌<◌, List, [], ◌∷◌, map, length, All, Option, Some, None, Result, Ok, Err, Bool, true, false, IsTrue, ◌⊎◌, inl, inr, refl, sym, ap, ◌∙◌, subst, arith, nat_lt, ◌+◌, ◌≤◌, get_or}
+use Rattle.std.specs.Prelude.{if◌then◌else◌}
+use Rattle.std.specs.Str.{bytes_eq}
+use Rattle.std.proofs.lemmas.Bool.Decides.{nat_tests}
+use Rattle.std.proofs.lemmas.List.Elements.{All-head, All-tail, All-same}
+use Rattle.std.proofs.lemmas.Slice.Eq.{bytes_eq-Decides}
+use Rattle.tm_io.specs.Counts.{Rose, counted, last_count}
+use Rattle.tm_io.specs.Shelf.{ShelfView, put_in, get_failed, held, PutFailed}
+use Rattle.tm_io.specs.Sink.{SinkView, took, write_failed}
+use Rattle.tm_prog.specs.declared.status.Status.{Status}
+use Rattle.tm_prog.specs.declared.status.Status.TheVariants as status
+use Rattle.tm_prog.specs.declared.command.Command.{Command}
+use Rattle.tm_prog.specs.Class.{Class, class_of, Done, HalfDone, Unasked, Unread, Starved, Refusal}
+use Rattle.tm_prog.specs.Made.{PutView, MadeView}
+use Rattle.tm_prog.specs.Reads.{CanRefuse}
+use Rattle.tm_prog.specs.Command.{names_put, IsMadeFor}
+use Rattle.tm_prog.specs.Answer.{answer_of}
+use Rattle.tm_prog.specs.World.{World, all_put, all_done, PutsStopped, IsHalfDone}
+use Rattle.tm_prog.specs.Outcome.{Ends, Counts, CountsStay, GetCounted, PutCounted, WriteCounted, Stays, OthersStay, NoneRose, IsDone}
+
+-- of a shelf only the contents and the count of puts change by puts
+record PutsKeep (old new : ShelfView) : Type 0 where
+  tells : new.tells ≡ old.tells
+  gets : new.gets ≡ old.gets
+  calm : new.calm ≡ old.calm
+  room : new.room ≡ old.room
+
+puts_keep : (puts : List PutView) (s : ShelfView) → PutsKeep s (all_put puts s)
+puts_keep [] s = record { tells = refl; gets = refl; calm = refl; room = refl }
+puts_keep (p ∷ puts) s =
+    let rest = puts_keep puts (put_in s p.name p.bytes) in
+    record { tells = rest.tells; gets = rest.gets; calm = rest.calm; room = rest.room }
+
+puts_count : (puts : List PutView) (s : ShelfView) → (all_put puts s).puts ≡ s.puts
+puts_count [] s = refl
+puts_count (p ∷ puts) s = puts_count puts (put_in s p.name p.bytes)
+
+stopped_keeps : (puts : List PutView) (old new : ShelfView) → PutsStopped puts old new → PutsKeep old new
+stopped_keeps [] old new none = absurd none
+stopped_keeps (p ∷ puts) old new (inl failed) = record {
+  tells = ap (λ (s : ShelfView). s.tells) failed.counts;
+  gets = ap (λ (s : ShelfView). s.gets) failed.counts;
+  calm = ap (λ (s : ShelfView). s.calm) failed.counts;
+  room = ap (λ (s : ShelfView). s.room) failed.counts;
+}
+stopped_keeps (p ∷ puts) old new (inr later) =
+    let rest = stopped_keeps puts (put_in old p.name p.bytes) new later in
+    record { tells = rest.tells; gets = rest.gets; calm = rest.calm; room = rest.room }
+
+stopped_count : (puts : List PutView) (old new : ShelfView) → PutsStopped puts old new → new.puts ≡ counted old.puts
+stopped_count [] old new none = absurd none
+stopped_count (p ∷ puts) old new (inl failed) = ap (λ (s : ShelfView). s.puts) failed.counts
+stopped_count (p ∷ puts) old new (inr later) = stopped_count puts (put_in old p.name p.bytes) new later
+
+half_counts : (made : MadeView) (before after : World) → IsHalfDone made before after → PutCounted before after ⊎ WriteCounted before after
+half_counts made before after (inl stopped) = inl (record {
+  gets = (stopped_keeps made.puts before.shelf after.shelf stopped.0).gets;
+  puts = stopped_count made.puts before.shelf after.shelf stopped.0;
+  faults = ap (λ (k : SinkView). k.faults) stopped.1;
+})
+half_counts made before after (inr stopped) = inr (record {
+  gets = ap (λ (s : ShelfView). s.gets) stopped.0 ∙ (puts_keep made.puts before.shelf).gets;
+  puts = ap (λ (s : ShelfView). s.puts) stopped.0 ∙ puts_count made.puts before.shelf;
+  faults = ap (λ (k : SinkView). k.faults) stopped.1.all_else;
+})
+
+same_counts : (before after : World) → after ≡ before → CountsStay before after
+same_counts before after same = record {
+  gets = ap (λ (w : World). w.shelf.gets) same;
+  puts = ap (λ (w : World). w.shelf.puts) same;
+  faults = ap (λ (w : World). w.sink.faults) same;
+}
+
+part_counts : (before after : World) → after.shelf ≡ before.shelf → after.sink ≡ before.sink → CountsStay before after
+part_counts before after shelf sink = record {
+  gets = ap (λ (s : ShelfView). s.gets) shelf;
+  puts = ap (λ (s : ShelfView). s.puts) shelf;
+  faults = ap (λ (k : SinkView). k.faults) sink;
+}
+
+pub counts : (class : Class) (s : Status) (command : Option Command) (before after : World) → Ends class s command before after → Counts class before after
+counts Done s command before after e = record {
+  gets = ap (λ (w : World). w.shelf.gets) e.2 ∙ (puts_keep e.0.puts before.shelf).gets;
+  puts = ap (λ (w : World). w.shelf.puts) e.2 ∙ puts_count e.0.puts before.shelf;
+  faults = ap (λ (w : World). w.sink.faults) e.2;
+}
+counts HalfDone s command before after e = half_counts e.0 before after e.2
+counts Unasked s command before after e = same_counts before after e.0
+counts Unread s command before after e = record {
+  gets = ap (λ (s : ShelfView). s.gets) e.0.0;
+  puts = ap (λ (s : ShelfView). s.puts) e.0.0;
+  faults = ap (λ (k : SinkView). k.faults) e.1;
+}
+counts Starved s command before after e = part_counts before after e.0 e.1
+counts Refusal s command before after e = part_counts before after e.0.0 e.1
+
+half_stays : (made : MadeView) (before after : World) → IsHalfDone made before after → Stays before after
+half_stays made before after (inl stopped) =
+    let kept = stopped_keeps made.puts before.shelf after.shelf stopped.0 in
+    record { tells = kept.tells; calm = kept.calm; rooms = kept.room; sink_calm = ap (λ (k : SinkView). k.calm) stopped.1 }
+half_stays made before after (inr stopped) =
+    let kept = puts_keep made.puts before.shelf in
+    record {
+      tells = ap (λ (s : ShelfView). s.tells) stopped.0 ∙ kept.tells;
+      calm = ap (λ (s : ShelfView). s.calm) stopped.0 ∙ kept.calm;
+      rooms = ap (λ (s : ShelfView). s.room) stopped.0 ∙ kept.room;
+      sink_calm = ap (λ (k : SinkView). k.calm) stopped.1.all_else;
+    }
+
+part_stays : (before after : World) (shelf : ShelfView) → after.shelf ≡ shelf → PutsKeep before.shelf shelf → after.sink ≡ before.sink → Stays before after
+part_stays before after shelf is kept sink = record {
+  tells = ap (λ (s : ShelfView). s.tells) is ∙ kept.tells;
+  calm = ap (λ (s : ShelfView). s.calm) is ∙ kept.calm;
+  rooms = ap (λ (s : ShelfView). s.room) is ∙ kept.room;
+  sink_calm = ap (λ (k : SinkView). k.calm) sink;
+}
+
+same_keeps : (s : ShelfView) → PutsKeep s s
+same_keeps s = puts_keep [] s
+
+pub stays : (class : Class) (s : Status) (command : Option Command) (before after : World) → Ends class s command before after → Stays before after
+stays Done s command before after e =
+    let kept = puts_keep e.0.puts before.shelf in
+    record {
+      tells = ap (λ (w : World). w.shelf.tells) e.2 ∙ kept.tells;
+      calm = ap (λ (w : World). w.shelf.calm) e.2 ∙ kept.calm;
+      rooms = ap (λ (w : World). w.shelf.room) e.2 ∙ kept.room;
+      sink_calm = ap (λ (w : World). w.sink.calm) e.2;
+    }
+stays HalfDone s command before after e = half_stays e.0 before after e.2
+stays Unasked s command before after e = part_stays before after before.shelf (ap (λ (w : World). w.shelf) e.0) (same_keeps before.shelf) (ap (λ (w : World). w.sink) e.0)
+stays Unread s command before after e = record {
+  tells = ap (λ (s : ShelfView). s.tells) e.0.0;
+  calm = ap (λ (s : ShelfView). s.calm) e.0.0;
+  rooms = ap (λ (s : ShelfView). s.room) e.0.0;
+  sink_calm = ap (λ (k : SinkView). k.calm) e.1;
+}
+stays Starved s command before after e = part_stays before after before.shelf e.0 (same_keeps before.shelf) e.1
+stays Refusal s command before after e = part_stays before after before.shelf e.0.0 (same_keeps before.shelf) e.1
+
+not_true : (b : Bool) → (b ≡ true → ⊥) → b ≡ false
+not_true true h = absurd (h refl)
+not_true false h = refl
+
+put_elsewhere : (tells : Bool) (content : List ℕ → Option (List ℕ)) (name bytes other : List ℕ) → other ≢ name →
+    (if tells then held content name bytes else content) other ≡ content other
+put_elsewhere true content name bytes other apart =
+    let same : bytes_eq other name ≡ false = not_true _ (λ is. apart ((bytes_eq-Decides other name).0 is)) in
+    rw same refl
+put_elsewhere false content name bytes other apart = refl
+
+puts_elsewhere : (puts : List PutView) (s : ShelfView) (other : List ℕ) →
+    All (λ name. other ≢ name) (map (λ p. p.name) puts) → (all_put puts s).content other ≡ s.content other
+puts_elsewhere [] s other apart = refl
+puts_elsewhere (p ∷ puts) s other apart =
+    puts_elsewhere puts (put_in s p.name p.bytes) other (All-tail (λ name. other ≢ name) p.name (map (λ p. p.name) puts) apart) ∙
+    put_elsewhere s.tells s.content p.name p.bytes other (All-head (λ name. other ≢ name) p.name (map (λ p. p.name) puts) apart)
+
+stopped_elsewhere : (puts : List PutView) (old new : ShelfView) (other : List ℕ) →
+    All (λ name. other ≢ name) (map (λ p. p.name) puts) → PutsStopped puts old new → new.content other ≡ old.content other
+stopped_elsewhere [] old new other apart none = absurd none
+stopped_elsewhere (p ∷ puts) old new other apart (inl failed) =
+    failed.others_stay other (All-head (λ name. other ≢ name) p.name (map (λ p. p.name) puts) apart)
+stopped_elsewhere (p ∷ puts) old new other apart (inr later) =
+    stopped_elsewhere puts (put_in old p.name p.bytes) new other (All-tail (λ name. other ≢ name) p.name (map (λ p. p.name) puts) apart) later ∙
+    put_elsewhere old.tells old.content p.name p.bytes other (All-head (λ name. other ≢ name) p.name (map (λ p. p.name) puts) apart)
+
+half_elsewhere : (made : MadeView) (before after : World) (other : List ℕ) →
+    All (λ name. other ≢ name) (map (λ p. p.name) made.puts) → IsHalfDone made before after → after.shelf.content other ≡ before.shelf.content other
+half_elsewhere made before after other apart (inl stopped) = stopped_elsewhere made.puts before.shelf after.shelf other apart stopped.0
+half_elsewhere made before after other apart (inr stopped) =
+    ap (λ (s : ShelfView). s.content other) stopped.0 ∙ puts_elsewhere made.puts before.shelf other apart
+
+-- what was made is put under the command's names alone
+elsewhere : (command : Command) (made : MadeView) (other : List ℕ) → IsMadeFor command made →
+    All (λ name. other ≢ name) (names_put command) → All (λ name. other ≢ name) (map (λ p. p.name) made.puts)
+elsewhere command made other for apart = All-same (λ name. other ≢ name) _ _ for.names apart
+
+pub contents_stay : (class : Class) (s : Status) (command : Option Command) (before after : World) → Ends class s command before after →
+    class ≢ Done → class ≢ HalfDone → after.shelf.content ≡ before.shelf.content
+contents_stay Done s command before after e not_done not_half = absurd (not_done refl)
+contents_stay HalfDone s command before after e not_done not_half = absurd (not_half refl)
+contents_stay Unasked s command before after e not_done not_half = ap (λ (w : World). w.shelf.content) e.0
+contents_stay Unread s command before after e not_done not_half = ap (λ (s : ShelfView). s.content) e.0.0
+contents_stay Starved s command before after e not_done not_half = ap (λ (s : ShelfView). s.content) e.0
+contents_stay Refusal s command before after e not_done not_half = ap (λ (s : ShelfView). s.content) e.0.0
+
+all_same : (command : Option Command) (before after : World) → after.shelf.content ≡ before.shelf.content → OthersStay command before after
+all_same None before after same = same
+all_same (Some command) before after same = λ name apart. ap (λ (content : List ℕ → Option (List ℕ)). content name) same
+
+pub others_stay : (class : Class) (s : Status) (command : Option Command) (before after : World) → Ends class s command before after → OthersStay command before after
+others_stay Done s None before after e = absurd e.1
+others_stay Done s (Some command) before after e = λ name apart.
+    ap (λ (w : World). w.shelf.content name) e.2 ∙ puts_elsewhere e.0.puts before.shelf name (elsewhere command e.0 name e.1.0 apart)
+others_stay HalfDone s None before after e = absurd e.1
+others_stay HalfDone s (Some command) before after e = λ name apart.
+    half_elsewhere e.0 before after name (elsewhere command e.0 name e.1.0 apart) e.2
+others_stay Unasked s command before after e = all_same command before after (ap (λ (w : World). w.shelf.content) e.0)
+others_stay Unread s command before after e = all_same command before after (ap (λ (s : ShelfView). s.content) e.0.0)
+others_stay Starved s command before after e = all_same command before after (ap (λ (s : ShelfView). s.content) e.0)
+others_stay Refusal s command before after e = all_same command before after (ap (λ (s : ShelfView). s.content) e.0.0)
+
+-- a class with one status
+pub done_is : (s : Status) → class_of s ≡ Done → s ≡ status.Ok
+done_is status.Ok is = refl
+done_is status.Words is = cc
+done_is status.ReadFault is = cc
+done_is (status.Image fault) is = cc
+done_is (status.Plan fault) is = cc
+done_is status.WriteFault is = cc
+done_is (status.TooLong file) is = cc
+done_is status.Memory is = cc
+
+pub half_done_is : (s : Status) → class_of s ≡ HalfDone → s ≡ status.WriteFault
+half_done_is status.Ok is = cc
+half_done_is status.Words is = cc
+half_done_is status.ReadFault is = cc
+half_done_is (status.Image fault) is = cc
+half_done_is (status.Plan fault) is = cc
+half_done_is status.WriteFault is = refl
+half_done_is (status.TooLong file) is = cc
+half_done_is status.Memory is = cc
+
+starved_is : (s : Status) → class_of s ≡ Starved → s ≡ status.Memory
+starved_is status.Ok is = cc
+starved_is status.Words is = cc
+starved_is status.ReadFault is = cc
+starved_is (status.Image fault) is = cc
+starved_is (status.Plan fault) is = cc
+starved_is status.WriteFault is = cc
+starved_is (status.TooLong file) is = cc
+starved_is status.Memory is = refl
+
+pub unput : (s : Status) (command : Option Command) (before after : World) → Ends (class_of s) s command before after →
+    s ≢ status.Ok → s ≢ status.WriteFault → after.shelf.content ≡ before.shelf.content
+unput s command before after e not_ok not_fault =
+    contents_stay (class_of s) s command before after e (λ is. not_ok (done_is s is)) (λ is. not_fault (half_done_is s is))
+
+at_last : (n : ℕ) → nat_lt n last_count ≡ false → last_count ≤ n
+at_last n is = grind (arith, nat_tests)
+
+rises_at : (n : ℕ) (below : Bool) → nat_lt n last_count ≡ below → Rose n (if below then n + 1 else n)
+rises_at n true is = inl (omega arith)
+rises_at n false is = inr (at_last n is)
+
+rises : (n : ℕ) → Rose n (counted n)
+rises n = rises_at n (nat_lt n last_count) refl
+
+rose : (before now : ℕ) → now ≡ counted before → Rose before now
+rose before now is = subst (Rose before) (sym is) (rises before)
+
+one_rose : (before after : World) → NoneRose before after → PutCounted before after ⊎ WriteCounted before after → ⊥
+one_rose before after quiet (inl put) = quiet.puts (rose _ _ put.puts)
+one_rose before after quiet (inr write) = quiet.faults (rose _ _ write.faults)
+
+-- a call in which no count rose met no fault
+pub undisturbed : (class : Class) (s : Status) (command : Option Command) (before after : World) (made : MadeView) →
+    Ends class s command before after → class_of s ≡ class → IsTrue before.shelf.tells →
+    answer_of command before.shelf.content ≡ Some (Ok made) → NoneRose before after → IsDone s
+undisturbed Done s command before after made e is tells due quiet = inl (done_is s is)
+undisturbed HalfDone s command before after made e is tells due quiet =
+    absurd (one_rose before after quiet (half_counts e.0 before after e.2))
+undisturbed Unasked s command before after made e is tells due quiet =
+    let none : answer_of None before.shelf.content ≡ Some (Ok made) =
+    subst (λ (q : Option Command). answer_of q before.shelf.content ≡ Some (Ok made)) e.1 due in cc
+undisturbed Unread s command before after made e is tells due quiet =
+    absurd (quiet.gets (rose _ _ (ap (λ (s : ShelfView). s.gets) e.0.0)))
+undisturbed Starved s command before after made e is tells due quiet = inr (starved_is s is)
+undisturbed Refusal s command before after made e is tells due quiet = let refused = e.0.2 tells in cc
+
+pub refusals : (s : Status) (command : Option Command) (before after : World) → Ends (class_of s) s command before after → CanRefuse s
+refusals status.Ok command before after e = tt
+refusals status.Words command before after e = tt
+refusals status.ReadFault command before after e = tt
+refusals (status.Image fault) command before after e = e.0.1
+refusals (status.Plan fault) command before after e = e.0.1
+refusals status.WriteFault command before after e = tt
+refusals (status.TooLong file) command before after e = e.0.1
+refusals status.Memory command before after e = tt

@@ -1,0 +1,31 @@
+-- What the files of a command say.
+use Rattle.std.specs.Prelude.{ℕ, List, Option, Result, Ok, Err}
+use Rattle.tm_marker.specs.declared.entries.Slice.{Slice}
+use Rattle.tm_image.specs.declared.fault.Fault.{Fault}
+use Rattle.tm_image.specs.Image.{ImageView, image_of}
+use Rattle.tm_image.specs.Plan.{plan_of}
+use Rattle.tm_prog.specs.declared.status.Status.{Status}
+use Rattle.tm_prog.specs.declared.status.Status.TheVariants.{Image, Plan}
+use Rattle.tm_prog.specs.declared.limits.TheConstants.{IMAGE_LIMIT, PLAN_LIMIT}
+use Rattle.tm_prog.specs.Reads.{file_in}
+
+-- the value of a text, or its refusal as a status
+abbrev pub said : {A : Type 0} → (Fault → Status) → Result A Fault → Result A Status
+said refused (Ok value) = Ok value
+said refused (Err fault) = Err (refused fault)
+
+-- the image that bytes spell, or the refusal of the image's text
+abbrev pub image_said : List ℕ → Result ImageView Status
+image_said bytes = said Image (image_of bytes)
+
+-- the script that bytes spell, or the refusal of the plan's text
+abbrev pub script_said : List ℕ → Result (List Slice) Status
+script_said bytes = said Plan (plan_of bytes)
+
+-- the image in the first file
+abbrev pub image_in : Option (List ℕ) → Option (Result ImageView Status)
+image_in file = file_in IMAGE_LIMIT 1 image_said file
+
+-- the script in the second file
+abbrev pub script_in : Option (List ℕ) → Option (Result (List Slice) Status)
+script_in file = file_in PLAN_LIMIT 2 script_said file

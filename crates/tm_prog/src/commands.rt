@@ -1,0 +1,30 @@
+//! The commands, each in a file of its own: what it makes of the files that it names.
+
+ghost use Rattle.std.specs.Prelude.{IfOk};
+ghost use Rattle.tm_prog.specs.Answer.{made_of};
+ghost use Rattle.tm_prog.specs.Command.{IsMadeFor};
+ghost use Rattle.tm_prog.specs.Reads.{Reads};
+
+mod record;
+mod trace;
+
+use crate::Status;
+use crate::command::Command;
+use crate::made::Made;
+use std::alloc::Global;
+use tm_io::Shelf;
+
+/// What the command makes.
+pub(crate) fn made_of<'a, F: Shelf>(
+    alloc: Global,
+    shelf: &mut F,
+    command: &Command<'a>,
+) -> Result<Made<'a>, Status>
+    ensures reads { Reads (made_of command.now (F.seen shelf.old).content) (F.seen shelf.old) (F.seen shelf.new) result }
+    ensures made { IfOk result (IsMadeFor command.now) }
+{
+    match command {
+        Command::Trace { image, plan } => trace::trace(alloc, shelf, image, plan),
+        Command::Record { image, plan, dump } => record::record(alloc, shelf, image, plan, dump),
+    }
+}
