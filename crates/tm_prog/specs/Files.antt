@@ -2,10 +2,12 @@
 use Rattle.std.specs.Prelude.{ℕ, List, Option, Result, Ok, Err}
 use Rattle.tm_marker.specs.declared.entries.Slice.{Slice}
 use Rattle.tm_image.specs.declared.fault.Fault.{Fault}
+use Rattle.tm_image.specs.declared.fault.Reason.{Reason}
+use Rattle.tm_image.specs.declared.fault.Reason.TheVariants as reason
 use Rattle.tm_image.specs.Image.{ImageView, image_of}
 use Rattle.tm_image.specs.Plan.{plan_of}
 use Rattle.tm_prog.specs.declared.status.Status.{Status}
-use Rattle.tm_prog.specs.declared.status.Status.TheVariants.{Image, Plan}
+use Rattle.tm_prog.specs.declared.status.Status.TheVariants.{Image, Plan, Memory}
 use Rattle.tm_prog.specs.declared.limits.TheConstants.{IMAGE_LIMIT, PLAN_LIMIT}
 use Rattle.tm_prog.specs.Reads.{file_in}
 
@@ -29,3 +31,13 @@ image_in file = file_in IMAGE_LIMIT 1 image_said file
 -- the script in the second file
 abbrev pub script_in : Option (List ℕ) → Option (Result (List Slice) Status)
 script_in file = file_in PLAN_LIMIT 2 script_said file
+
+-- the status for an image's text that was refused, or for which there was no memory
+abbrev pub image_status : Fault → Reason → Status
+image_status fault reason.Memory = Memory
+image_status fault _ = Image fault
+
+-- the same for a plan's text
+abbrev pub plan_status : Fault → Reason → Status
+plan_status fault reason.Memory = Memory
+plan_status fault _ = Plan fault

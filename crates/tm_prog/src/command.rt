@@ -37,7 +37,10 @@ impl<'a> Name<'a> {
 #[derive(Drop)]
 pub(crate) enum Command<'a> {
     /// The text of the whole run of a plan on an image.
-    Trace { image: Name<'a>, plan: Name<'a> },
+    Trace {
+        image: Name<'a>,
+        plan: Name<'a>,
+    },
     /// The dump of that run's window, put under a name.
     Record {
         image: Name<'a>,

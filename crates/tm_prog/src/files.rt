@@ -2,13 +2,14 @@
 
 ghost use Rattle.std.specs.Prelude.{◌≡◌, ℕ, ◌^◌, ◌<◌, ◌≤◌, List, Result, length, IfOk};
 ghost use Rattle.tm_prog.specs.declared.status.Status.{Status};
+ghost use Rattle.tm_prog.specs.Files.{image_status, plan_status};
 ghost use Rattle.tm_prog.specs.Reads.{CanRefuse, Reads, Says, file_in};
 
 use crate::Status;
 use crate::command::Name;
 use crate::limits::{IMAGE_LIMIT, PLAN_LIMIT};
 use std::alloc::Global;
-use tm_image::{Image, Plan, Reason, read_image, read_plan};
+use tm_image::{Image, ImageFault, Plan, PlanFault, Reason, read_image, read_plan};
 use tm_io::{GetFault, Shelf};
 
 /// A kind of file: how long one may be, and what its bytes say, beside what was read before it.
@@ -30,6 +31,26 @@ pub(crate) trait FileKind<C> {
         ensures sound { IfOk result sound };
 }
 
+/// The status for an image's text that was not read.
+fn image_status(fault: ImageFault) -> Status
+    ensures { result ≡ image_status fault fault.reason }
+{
+    match fault.reason {
+        Reason::Memory => Status::Memory,
+        _ => Status::Image(fault),
+    }
+}
+
+/// The status for a plan's text that was not read.
+fn plan_status(fault: PlanFault) -> Status
+    ensures { result ≡ plan_status fault fault.reason }
+{
+    match fault.reason {
+        Reason::Memory => Status::Memory,
+        _ => Status::Plan(fault),
+    }
+}
+
 impl FileKind<()> for Image {
     ghost use Rattle.tm_image.specs.Image.{IsImage};
     ghost use Rattle.tm_prog.specs.declared.limits.TheConstants.{IMAGE_LIMIT};
@@ -44,10 +65,7 @@ impl FileKind<()> for Image {
     ghost sound = { IsImage };
 
     fn read(alloc: Global, _beside: &(), bytes: &[u8]) -> Result<Image, Status> {
-        read_image(alloc, bytes).map_err(|fault| match fault.reason {
-            Reason::Memory => Status::Memory,
-            _ => Status::Image(fault),
-        })
+        read_image(alloc, bytes).map_err(image_status)
     }
 }
 
@@ -65,10 +83,7 @@ impl FileKind<()> for Plan {
     ghost sound = { λ plan. length plan < 2 ^ 32 };
 
     fn read(alloc: Global, _beside: &(), bytes: &[u8]) -> Result<Plan, Status> {
-        read_plan(alloc, bytes).map_err(|fault| match fault.reason {
-            Reason::Memory => Status::Memory,
-            _ => Status::Plan(fault),
-        })
+        read_plan(alloc, bytes).map_err(plan_status)
     }
 }
 

@@ -11,13 +11,17 @@ returns-in-Err-clause-answer g c =
 
 pub returns-in-Ok-deliver-clause-answer : goal.returns-in-Ok-deliver-clause-answer
 returns-in-Ok-deliver-clause-answer g c =
-    let sink = g.K.Sink.seen c.args.out.now in
-    (c.in-Ok.made, made_is _ c.in-Some.command _ _ c.in-Some.ensures c.in-Ok.ensures.made c.in-Ok.ensures.reads.1,
-    c.in-Ok-deliver.ensures.done ∙ ap (λ (s : ShelfView). all_done c.in-Ok.made (world s sink)) c.in-Ok.ensures.reads.0)
+    let sink = g.K.Sink.seen c.args.out.now in (
+      c.in-Ok.made,
+      made_is _ c.in-Some.command _ _ c.in-Some.ensures c.in-Ok.ensures.made c.in-Ok.ensures.reads.1,
+      c.in-Ok-deliver.ensures.done ∙ ap (λ (s : ShelfView). all_done c.in-Ok.made (world s sink)) c.in-Ok.ensures.reads.0,
+    )
 
 pub returns-clause-answer : goal.returns-clause-answer
 returns-clause-answer g c =
     let sink = g.K.Sink.seen c.args.out.now in
-    let now = world (g.F.Shelf.seen c.deliver.new.shelf) (g.K.Sink.seen c.deliver.new.out) in
-    (c.in-Ok.made, made_is _ c.in-Some.command _ _ c.in-Some.ensures c.in-Ok.ensures.made c.in-Ok.ensures.reads.1,
-    subst (λ (s : ShelfView). IsHalfDone c.in-Ok.made (world s sink) now) c.in-Ok.ensures.reads.0 c.in-Err-deliver.ensures.half_done)
+    let now = world (g.F.Shelf.seen c.deliver.new.shelf) (g.K.Sink.seen c.deliver.new.out) in (
+      c.in-Ok.made,
+      made_is _ c.in-Some.command _ _ c.in-Some.ensures c.in-Ok.ensures.made c.in-Ok.ensures.reads.1,
+      subst (λ (s : ShelfView). IsHalfDone c.in-Ok.made (world s sink) now) c.in-Ok.ensures.reads.0 c.in-Err-deliver.ensures.half_done,
+    )
