@@ -74,12 +74,14 @@ pub fn accepts_epoch(window: &Window, task: u8, epoch: u64) -> Result<(), Lost>
     Ok(())
 }
 
-/// A task's marker at a point.
-fn marker_at(window: &Window, point: u64, task: u8) -> Marker
-    requires window { IsWindow window.now }
-    requires task { task < length window.now.shape.words }
+/// A task's marker at a point, as the kept entries and the tail have it: the marker with which the point's
+/// own entry or a later one first switches to the task, or its last one where none does.
+pub fn marker_at(window: &Window, point: u64, task: u8) -> Marker
+    requires { task < length window.now.shape.words }
     ensures { result ≡ marker_at_point window.now point task }
 {
+    // A window has a marker for each task: known from here on.
+    let _ = window.tasks();
     match resumed_from(window.control(), point.saturating_sub(1), task) {
         Some(at) => at,
         None => window.tail().at.at(usize::from(task)),

@@ -12,7 +12,7 @@ mod laws;
 mod list;
 
 pub use accepted::points;
-pub use finder::{Lost, accepts};
+pub use finder::{Lost, accepts, marker_at};
 pub use laws::{accepted_points_are_replayable, markers_stand_in_entries, the_least_task_is_told};
 pub use list::Points;
 
