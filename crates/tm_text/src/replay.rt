@@ -45,7 +45,7 @@ fn put_replay(replay: &Replay, window: &Window, into: &mut Vec<u8>) -> Result<()
     ensures ok { OnOk result (into.new.items ≡ into.old.items ++ spelled (replay_story replay.now window.now)) }
     ensures keeps { Keeps into.old.items into.new.items }
 {
-    let _tasks = window.tasks();
+    window.attest();
     let tracks = replay.tracks.as_slice();
     put_start_line(replay.from, replay.running, into)?;
     put_starts(tracks, into)?;
