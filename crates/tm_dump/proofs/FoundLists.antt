@@ -13,7 +13,7 @@ use Rattle.tm_marker.specs.declared.shape.Caps.{Caps}
 use Rattle.tm_marker.specs.declared.tail.Tail.{Tail}
 use Rattle.tm_ring.specs.Kept.{Kept}
 use Rattle.tm_check.specs.Checkpoint.{Checkpoint, KeptChecks}
-use Rattle.tm_image.specs.Steps.{◌>>=◌}
+use Rattle.tm_lines.specs.Steps.{◌>>=◌}
 use Rattle.tm_log.specs.WellFormed.{IsMarker, IsFilled, runs_last, ended_last}
 use Rattle.tm_dump.specs.Cursor.{Cursor, Reading, byte_in, long_in}
 use Rattle.tm_dump.specs.Fields.{long_bytes, word_bytes, marker_bytes, entry_bytes, checkpoint_bytes}

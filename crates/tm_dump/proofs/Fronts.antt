@@ -11,7 +11,7 @@ use Rattle.tm_marker.specs.declared.entries.DataEntry.{DataEntry}
 use Rattle.tm_marker.specs.declared.shape.Caps.{Caps}
 use Rattle.tm_ring.specs.Kept.{Kept}
 use Rattle.tm_check.specs.Checkpoint.{Checkpoint, KeptChecks}
-use Rattle.tm_image.specs.Steps.{◌>>=◌}
+use Rattle.tm_lines.specs.Steps.{◌>>=◌}
 use Rattle.tm_dump.specs.declared.fault.DumpFault.{DumpFault}
 use Rattle.tm_dump.specs.declared.fault.DumpFault.TheVariants.{Magic, Version, Digest, OtherImage, Field, Extra, Memory}
 use Rattle.tm_dump.specs.Cursor.{Cursor, Reading, UnlessMemory, word_in, words_in}

@@ -10,7 +10,7 @@ use Rattle.tm_marker.specs.declared.tail.Tail.{Tail}
 use Rattle.tm_marker.specs.Shape.{IsShape}
 use Rattle.tm_ring.specs.Kept.{Kept}
 use Rattle.tm_check.specs.Checkpoint.{KeptChecks}
-use Rattle.tm_image.specs.Steps.{◌>>=◌}
+use Rattle.tm_lines.specs.Steps.{◌>>=◌}
 use Rattle.tm_log.specs.Window.{WindowView, IsWindow, window_from}
 use Rattle.tm_dump.specs.declared.fault.DumpFault.TheVariants.{Extra}
 use Rattle.tm_dump.specs.Cursor.{Cursor}

@@ -12,7 +12,7 @@ use Rattle.tm_marker.specs.declared.entries.Switch.{Switch}
 use Rattle.tm_marker.specs.declared.entries.DataEntry.{DataEntry}
 use Rattle.tm_marker.specs.declared.entries.OutputEntry.{OutputEntry}
 use Rattle.tm_check.specs.Checkpoint.{Checkpoint, checkpoint}
-use Rattle.tm_image.specs.Steps.{◌>>=◌}
+use Rattle.tm_lines.specs.Steps.{◌>>=◌}
 use Rattle.tm_log.specs.Window.{nobody, zero_marker}
 use Rattle.tm_log.specs.WellFormed.{IsMarker, IsTaskOrNobody, GoesTo, IsOutput, IsCheckpoint}
 use Rattle.tm_dump.specs.Cursor.{Cursor, byte_where, long_where}

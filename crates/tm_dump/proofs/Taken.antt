@@ -8,7 +8,7 @@ use Rattle.std.proofs.lemmas.Bool.{cases_lt}
 use Rattle.std.proofs.lemmas.Bool.Decides.{nat_tests}
 use Rattle.std.proofs.lemmas.Nat.{le_bytes_4, le_bytes_8}
 use Rattle.byteorder.specs.Endian.{little_number}
-use Rattle.tm_image.specs.Steps.{◌>>=◌}
+use Rattle.tm_lines.specs.Steps.{◌>>=◌}
 use Rattle.tm_dump.specs.declared.fault.DumpFault.{DumpFault}
 use Rattle.tm_dump.specs.Bytes.{AreBytes}
 use Rattle.tm_dump.specs.Cursor.{Cursor, Reading, bad, past, word_at, long_at, byte_in, word_in, long_in, ruled, byte_where, word_where, long_where, words_in}

@@ -1,7 +1,7 @@
 -- Numbers at a place of a dump: each is read from the bytes that are left.
 use Rattle.std.specs.Prelude.{◌≡◌, ℕ, zero, suc, ◌+◌, Bool, if◌then◌else◌, nat_lt, List, [], ◌∷◌, drop, take, length, slice_index, Result, Ok, Err}
 use Rattle.byteorder.specs.Endian.{little_number}
-use Rattle.tm_image.specs.Steps.{◌>>=◌}
+use Rattle.tm_lines.specs.Steps.{◌>>=◌}
 use Rattle.tm_dump.specs.declared.fault.DumpFault.{DumpFault}
 use Rattle.tm_dump.specs.declared.widths.TheConstants.{WORD_BYTES, LONG_BYTES}
 use Rattle.tm_dump.specs.declared.fault.DumpFault.TheVariants.{Field, Memory}

@@ -15,7 +15,7 @@ use Rattle.tm_marker.specs.declared.shape.Shape.{Shape}
 use Rattle.tm_marker.specs.declared.tail.Tail.{Tail}
 use Rattle.tm_ring.specs.Kept.{Kept, kept}
 use Rattle.tm_check.specs.Checkpoint.{Checkpoint, KeptChecks, checkpoint, kept_checks}
-use Rattle.tm_image.specs.Steps.{◌>>=◌}
+use Rattle.tm_lines.specs.Steps.{◌>>=◌}
 use Rattle.tm_log.specs.Window.{WindowView, window_from, nobody}
 use Rattle.tm_log.specs.WellFormed.{ended_by, runs_last, ended_last}
 use Rattle.tm_dump.specs.declared.fault.DumpFault.{DumpFault}

@@ -1,33 +1,14 @@
 -- A plan has no more slices than its text has bytes.
-use Rattle.std.proofs.Common.{◌≡◌, ℕ, suc, ◌+◌, ◌<◌, ◌≤◌, Bool, true, false, ◌||◌, List, [], ◌∷◌, ◌++◌, length, nat_lt, if◌then◌else◌, refl, ap, arith, length-append, Result, Ok, Err}
+use Rattle.std.proofs.Common.{◌≡◌, ℕ, suc, ◌+◌, ◌≤◌, Bool, true, false, ◌||◌, List, [], ◌∷◌, ◌++◌, length, nat_lt, if◌then◌else◌, ap, arith, length-append, Ok, Err}
 use Rattle.std.specs.Prelude.{codes}
 use Rattle.std.specs.Str.{bytes_eq}
 use Rattle.std.specs.List.{onto_first}
 use Rattle.tm_marker.specs.declared.entries.Slice.{Slice}
-use Rattle.tm_image.specs.declared.fault.Reason.{Reason}
-use Rattle.tm_image.specs.declared.fault.Reason.TheVariants.{Form}
-use Rattle.tm_image.specs.declared.fault.Fault.{Fault}
-use Rattle.tm_image.specs.Steps.{◌>>=◌, on_line, tested}
-use Rattle.tm_image.specs.Lines.{is_line_end, pieces, opening, from_header, said, go_on, step, lines_on}
+use Rattle.tm_lines.specs.declared.fault.Reason.TheVariants.{Form}
+use Rattle.tm_lines.specs.Steps.{◌>>=◌, on_line}
+use Rattle.tm_lines.specs.Lines.{is_line_end, pieces, opening, from_header, said, go_on, step, lines_on}
+use Rattle.tm_lines.proofs.Steps.{bound, on_line_gave, passed}
 use Rattle.tm_image.specs.Plan.{slice_in, new_slice, plan_line, plan_of}
-
--- both steps gave a value
-bound : {A B E : Type 0} (r : Result A E) (next : A → Result B E) (y : B) →
-    (r >>= next) ≡ Ok y → (x : A) × ((r ≡ Ok x) × (next x ≡ Ok y))
-bound (Ok x) next y e = (x, (refl, e))
-bound (Err f) next y e = cc e
-
--- a line gave a value
-line_gave : {A : Type 0} (number : ℕ) (r : Result A Reason) (x : A) → on_line number r ≡ Ok x → r ≡ Ok x
-line_gave number (Ok y) x e = cc e
-line_gave number (Err reason) x e = cc e
-
--- the tests passed
-passed : {A : Type 0} (out again over : Bool) (made x : A) → tested out again over made ≡ Ok x → made ≡ x
-passed true again over made x e = cc e
-passed false true over made x e = cc e
-passed false false true made x e = cc e
-passed false false false made x e = cc e
 
 piece_more : (ends : Bool) (c : ℕ) (parts : List (List ℕ)) (n : ℕ) →
     length parts ≤ n → length (if ends then [] ∷ parts else onto_first c parts) ≤ suc n
@@ -59,7 +40,7 @@ length-keyword : (is : Bool) (slices after : List Slice) (words : List (List ℕ
 length-keyword false slices after words e = cc e
 length-keyword true slices after words e =
     let read = bound (slice_in words) (new_slice slices) after e in
-    let made : slices ++ read.0 ∷ [] ≡ after = passed (nat_lt 1048576 read.0.length || nat_lt 65535 read.0.mask) false false (slices ++ read.0 ∷ []) after read.1.1 in
+    let made : slices ++ read.0 ∷ [] ≡ after = (passed (nat_lt 1048576 read.0.length || nat_lt 65535 read.0.mask) false false (slices ++ read.0 ∷ []) after read.1.1).is in
     omega (arith, ap length made, length-append slices (read.0 ∷ []))
 
 length-plan_line : (slices after : List Slice) (tokens : List (List ℕ)) →
@@ -78,7 +59,7 @@ length-lines_on [] number slices last e =
     let same : (number, slices) ≡ last = cc e in omega (arith, ap (λ (l : ℕ × List Slice). length l.1) same)
 length-lines_on (line ∷ rest) number slices last e =
     let went = bound (on_line number (step plan_line slices line)) (λ after. lines_on plan_line (number + 1) after rest) last e in
-    let read = bound (said line) (go_on plan_line slices) went.0 (line_gave number (step plan_line slices line) went.0 went.1.0) in
+    let read = bound (said line) (go_on plan_line slices) went.0 (on_line_gave number (step plan_line slices line) went.0 went.1.0) in
     omega (arith, length-go_on slices went.0 read.0 read.1.1, length-lines_on rest (number + 1) went.0 last went.1.1)
 
 -- the slices of a plan are not more than the bytes of its text

@@ -32,12 +32,12 @@ use Rattle.tm_image.specs.declared.said.RingLine.{RingLine}
 use Rattle.tm_image.specs.declared.rings.RingName.{RingName}
 use Rattle.tm_image.specs.declared.rings.RingName.TheVariants as ring
 use Rattle.tm_image.specs.declared.rings.Rings.{Rings}
-use Rattle.tm_image.specs.Steps.{◌>>=◌}
-use Rattle.tm_image.specs.Numbers.{number_in, all_in}
+use Rattle.tm_lines.specs.Steps.{◌>>=◌}
+use Rattle.tm_lines.specs.Numbers.{number_in, all_in}
 use Rattle.tm_image.specs.Said.{keyword_in, task_in, text_in, data_in, resource_in, alarm_in, box_in, line_in, ring_in}
 use Rattle.tm_image.specs.Load.{Load, more_text, with_text, written, new_data, with_data}
 use Rattle.tm_image.specs.Draft.{Draft, empty_draft, is_taken, is_off_range, with_task, new_task, new_text, new_data_words, is_no_task, has_twice, mask_of, new_resource, task_of, action_of, new_alarm, new_box, names_no_task, line_action_of, is_given, new_line, most_of, ring_of, with_ring, new_ring, caps_of, words_on, image_line}
-use Rattle.tm_image.proofs.Steps.{bound, passed, both_not}
+use Rattle.tm_lines.proofs.Steps.{bound, passed, both_not}
 use Rattle.tm_image.proofs.Masks.{mask_some, mask_few}
 
 -- a load whose text may still come

@@ -1,10 +1,5 @@
-pub mod Cuts
-pub mod Bounds
-pub mod Fronts
-pub mod Steps
 pub mod Masks
 pub mod Kept
 pub mod Wholes
 pub mod Counts
-pub mod First
 pub mod Calm

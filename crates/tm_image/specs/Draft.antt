@@ -6,9 +6,13 @@ use Rattle.tm_kernel.specs.declared.spec.Action.{Action}
 use Rattle.tm_kernel.specs.declared.spec.Action.TheVariants as action
 use Rattle.tm_kernel.specs.declared.spec.TaskSpec.{TaskSpec}
 use Rattle.tm_kernel.specs.declared.spec.KernelSpec.{KernelSpec}
+use Rattle.tm_kernel.specs.declared.spec.TheConstants.{MOST_RESOURCES, MOST_ALARMS, MOST_BOXES, MOST_MESSAGES}
+use Rattle.tm_marker.specs.declared.entries.TheConstants.{LINES}
 use Rattle.tm_marker.specs.declared.shape.Caps.{Caps}
-use Rattle.tm_image.specs.declared.fault.Reason.{Reason}
-use Rattle.tm_image.specs.declared.fault.Reason.TheVariants.{Form, Range, Missing}
+use Rattle.tm_marker.specs.declared.shape.TheConstants.{MOST_TASKS, MOST_WORDS, MOST_ITEMS, MOST_CHECKPOINTS}
+use Rattle.tm_marker.specs.declared.shape.TheConstants.Caps.{DEFAULT}
+use Rattle.tm_lines.specs.declared.fault.Reason.{Reason}
+use Rattle.tm_lines.specs.declared.fault.Reason.TheVariants.{Form, Range, Missing}
 use Rattle.tm_image.specs.declared.said.Keyword.{Keyword}
 use Rattle.tm_image.specs.declared.said.Keyword.TheVariants.{Task, Text, Data, Resource, Alarm, Box, Line, Ring}
 use Rattle.tm_image.specs.declared.said.TaskLine.{TaskLine}
@@ -26,7 +30,7 @@ use Rattle.tm_image.specs.declared.said.RingLine.{RingLine}
 use Rattle.tm_image.specs.declared.rings.RingName.{RingName}
 use Rattle.tm_image.specs.declared.rings.RingName.TheVariants as ring
 use Rattle.tm_image.specs.declared.rings.Rings.{Rings}
-use Rattle.tm_image.specs.Steps.{◌>>=◌, tested}
+use Rattle.tm_lines.specs.Steps.{◌>>=◌, tested}
 use Rattle.tm_image.specs.Said.{keyword_in, task_in, text_in, data_in, resource_in, alarm_in, box_in, line_in, ring_in}
 use Rattle.tm_image.specs.Load.{Load, has_no_text, is_outside, with_text, with_data}
 
@@ -39,7 +43,7 @@ pub record Draft : Type 0 where
 -- before the first line: nothing, and no line with an action
 abbrev pub empty_draft : Draft
 empty_draft = record {
-  spec = record { tasks = []; users = []; alarms = []; boxes = []; lines = replicate 16 action.Nothing };
+  spec = record { tasks = []; users = []; alarms = []; boxes = []; lines = replicate LINES action.Nothing };
   loads = [];
   rings = record { control = None; logs = None; outputs = None; checks = None };
 }
@@ -49,10 +53,10 @@ abbrev pub is_taken : ℕ → List TaskSpec → Bool
 is_taken priority tasks = list_any (λ t. t.priority == priority) tasks
 
 -- a line `task` has a number outside its range: the priority is one of 1 to 255, the entry a multiple
--- of 4, and there are 1 to 16,384 data words
+-- of 4, and there is a data word, and no more than there may be
 abbrev pub is_off_range : TaskLine → Bool
 is_off_range t =
-    t.priority == 0 || nat_lt 255 t.priority || not (t.entry % 4 == 0) || t.words == 0 || nat_lt 16384 t.words
+    t.priority == 0 || nat_lt 255 t.priority || not (t.entry % 4 == 0) || t.words == 0 || nat_lt MOST_WORDS t.words
 
 -- one more task, whose data words are 0; its text comes later
 abbrev pub with_task : Draft → TaskLine → Draft
@@ -68,7 +72,7 @@ abbrev pub new_task : Draft → TaskLine → Result Draft Reason
 new_task d t = tested
     (nat_lt (length d.spec.tasks) t.number || is_off_range t)
     (nat_lt t.number (length d.spec.tasks) || is_taken t.priority d.spec.tasks)
-    (t.number == 16)
+    (t.number == MOST_TASKS)
     (with_task d t)
 
 abbrev pub new_text : Draft → TextLine → Result Draft Reason
@@ -99,7 +103,7 @@ abbrev pub new_resource : Draft → ResourceLine → Result Draft Reason
 new_resource d r = tested
     (nat_lt (length d.spec.users) r.number || list_any (is_no_task d.spec.tasks) r.users)
     (nat_lt r.number (length d.spec.users) || has_twice r.users)
-    (r.number == 16)
+    (r.number == MOST_RESOURCES)
     (record d { spec = record d.spec { users = d.spec.users ++ mask_of r.users ∷ [] } })
 
 -- the task that an action names
@@ -117,15 +121,15 @@ abbrev pub new_alarm : Draft → AlarmLine → Result Draft Reason
 new_alarm d a = tested
     (nat_lt (length d.spec.alarms) a.number || is_no_task d.spec.tasks (task_of a.action))
     (nat_lt a.number (length d.spec.alarms))
-    (a.number == 16)
+    (a.number == MOST_ALARMS)
     (record d { spec = record d.spec { alarms = d.spec.alarms ++ action_of a.action ∷ [] } })
 
--- boxes are numbered in their order, and hold 1 to 64 messages
+-- boxes are numbered in their order, and each has room for a message, and no more than it may have
 abbrev pub new_box : Draft → BoxLine → Result Draft Reason
 new_box d b = tested
-    (nat_lt (length d.spec.boxes) b.number || b.capacity == 0 || nat_lt 64 b.capacity)
+    (nat_lt (length d.spec.boxes) b.number || b.capacity == 0 || nat_lt MOST_MESSAGES b.capacity)
     (nat_lt b.number (length d.spec.boxes))
-    (b.number == 16)
+    (b.number == MOST_BOXES)
     (record d { spec = record d.spec { boxes = d.spec.boxes ++ b.capacity ∷ [] } })
 
 -- the action of a line names a task that there is not
@@ -145,20 +149,20 @@ is_given action.Tick = true
 is_given (action.Activate t) = true
 is_given (action.Event t mask) = true
 
--- there are 16 lines
+-- an action of a line that there is
 abbrev pub new_line : Draft → LineLine → Result Draft Reason
 new_line d l = tested
-    (nat_lt 15 l.number || names_no_task d.spec.tasks l.action)
+    (nat_le LINES l.number || names_no_task d.spec.tasks l.action)
     (is_given (unwrap_or (slice_get d.spec.lines l.number) action.Nothing))
     false
     (record d { spec = record d.spec { lines = slice_set d.spec.lines l.number (line_action_of l.action) } })
 
 -- the most items that a ring may keep
 abbrev pub most_of : RingName → ℕ
-most_of ring.Control = 65536
-most_of ring.Data = 65536
-most_of ring.Outputs = 65536
-most_of ring.Checks = 64
+most_of ring.Control = MOST_ITEMS
+most_of ring.Data = MOST_ITEMS
+most_of ring.Outputs = MOST_ITEMS
+most_of ring.Checks = MOST_CHECKPOINTS
 
 -- the capacity that a ring was given
 abbrev pub ring_of : Rings → RingName → Option ℕ
@@ -181,13 +185,13 @@ new_ring d r = tested
     false
     (record d { rings = with_ring d.rings r.ring r.capacity })
 
--- the capacities: those that were given, else 256 items, and 4 checkpoints
+-- the capacities: those that were given, else the default ones
 abbrev pub caps_of : Rings → Caps
 caps_of rings = record {
-  control = unwrap_or rings.control 256;
-  logs = unwrap_or rings.logs 256;
-  outputs = unwrap_or rings.outputs 256;
-  checks = unwrap_or rings.checks 4;
+  control = unwrap_or rings.control DEFAULT.control;
+  logs = unwrap_or rings.logs DEFAULT.logs;
+  outputs = unwrap_or rings.outputs DEFAULT.outputs;
+  checks = unwrap_or rings.checks DEFAULT.checks;
 }
 
 -- what the words below a keyword make of a draft

@@ -5,10 +5,12 @@ use Rattle.tm_kernel.specs.declared.spec.KernelSpec.{KernelSpec}
 use Rattle.tm_kernel.specs.Spec.{IsKernelSpec}
 use Rattle.tm_marker.specs.declared.shape.Caps.{Caps}
 use Rattle.tm_marker.specs.declared.shape.Shape.{Shape}
+use Rattle.tm_marker.specs.declared.entries.TheConstants.{LINES}
+use Rattle.tm_marker.specs.declared.shape.TheConstants.{MOST_WORDS}
 use Rattle.tm_marker.specs.Shape.{IsCaps}
-use Rattle.tm_image.specs.declared.fault.Fault.{Fault}
-use Rattle.tm_image.specs.Steps.{◌>>=◌, on_line}
-use Rattle.tm_image.specs.Lines.{pieces, from_header, lines_on}
+use Rattle.tm_lines.specs.declared.fault.Fault.{Fault}
+use Rattle.tm_lines.specs.Steps.{◌>>=◌, on_line}
+use Rattle.tm_lines.specs.Lines.{pieces, from_header, lines_on}
 use Rattle.tm_image.specs.Draft.{Draft, empty_draft, caps_of, image_line, whole}
 pub use Rattle.tm_image.specs.Load.{Load}
 
@@ -44,21 +46,21 @@ shape_of image = record {
   words = map (λ load. length load.words) image.loads;
 }
 
--- 1 to 16,384 words of text and of data; the entry is the address of a word of the text
+-- a word of text and of data, and no more than a task may have; the entry is the address of a word of the text
 pub record IsLoad (load : Load) : Type 0 where
   pub some_text : 0 < length load.text
-  pub short_text : length load.text ≤ 16384
+  pub short_text : length load.text ≤ MOST_WORDS
   pub some_words : 0 < length load.words
-  pub few_words : length load.words ≤ 16384
+  pub few_words : length load.words ≤ MOST_WORDS
   pub aligned : load.entry % 4 ≡ 0
   pub inside : load.entry < 4 * length load.text
 
--- a kernel can be made of the specification, each of its tasks can be loaded, and each of the 16 lines
--- has an action; the digest has 32 bytes, and the capacities are within their limits
+-- a kernel can be made of the specification, each of its tasks can be loaded, and each line has an
+-- action; the digest has 32 bytes, and the capacities are within their limits
 pub record IsImage (image : ImageView) : Type 0 where
   pub digest : length image.digest ≡ 32
   pub spec : IsKernelSpec image.spec
-  pub lines : length image.spec.lines ≡ 16
+  pub lines : length image.spec.lines ≡ LINES
   pub loads : length image.loads ≡ length image.spec.tasks
   pub each : All IsLoad image.loads
   pub caps : IsCaps image.caps

@@ -1,10 +1,6 @@
-pub mod Steps
-pub mod Lines
-pub mod Numbers
 pub mod Plan
 pub mod Said
 pub mod Load
 pub mod Draft
 pub mod Image
-pub mod Laws
 pub mod Examples

@@ -1,10 +1,11 @@
 -- What a task is loaded from, and how the lines `text` and `data` change it.
 use Rattle.std.specs.Prelude.{ℕ, ◌+◌, ◌*◌, Bool, false, not, List, ◌++◌, length, take, drop, slice_get, slice_set, ◌==◌, nat_lt, Option, Some, None, Result, Ok, Err}
-use Rattle.tm_image.specs.declared.fault.Reason.{Reason}
-use Rattle.tm_image.specs.declared.fault.Reason.TheVariants.{Range}
+use Rattle.tm_marker.specs.declared.shape.TheConstants.{MOST_WORDS}
+use Rattle.tm_lines.specs.declared.fault.Reason.{Reason}
+use Rattle.tm_lines.specs.declared.fault.Reason.TheVariants.{Range}
 use Rattle.tm_image.specs.declared.said.TextLine.{TextLine}
 use Rattle.tm_image.specs.declared.said.DataLine.{DataLine}
-use Rattle.tm_image.specs.Steps.{◌>>=◌, tested}
+use Rattle.tm_lines.specs.Steps.{◌>>=◌, tested}
 
 -- what a task is loaded from: the address of its first instruction, the words of its text, and its
 -- data words at boot
@@ -21,13 +22,13 @@ has_no_text load = length load.text == 0
 abbrev pub is_outside : Load → Bool
 is_outside load = not (nat_lt load.entry (4 * length load.text))
 
--- a task's text with more words at its end, at most 16,384 words; there must be such a task
+-- a task's text with more words at its end, within the most that a task may have; there must be such a task
 abbrev pub more_text : List ℕ → Option Load → Result Load Reason
 more_text words None = Err Range
 more_text words (Some load) = tested
     false
     false
-    (nat_lt 16384 (length load.text + length words))
+    (nat_lt MOST_WORDS (length load.text + length words))
     (record load { text = load.text ++ words })
 
 -- the loads, with the words of a line `text`

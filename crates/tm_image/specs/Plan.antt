@@ -2,18 +2,19 @@
 use Rattle.std.specs.Prelude.{◌≡◌, ℕ, ◌<◌, ◌≤◌, false, ◌||◌, List, [], ◌∷◌, ◌++◌, length, nat_lt, codes, if◌then◌else◌, Result, Ok, Err}
 use Rattle.std.specs.Str.{bytes_eq}
 use Rattle.tm_marker.specs.declared.entries.Slice.{Slice}
-use Rattle.tm_image.specs.declared.fault.Reason.{Reason}
-use Rattle.tm_image.specs.declared.fault.Reason.TheVariants.{Form}
-use Rattle.tm_image.specs.declared.fault.Fault.{Fault}
-use Rattle.tm_image.specs.Steps.{◌>>=◌, tested}
-use Rattle.tm_image.specs.Lines.{pieces, from_header, lines_on}
-use Rattle.tm_image.specs.Numbers.{number_in}
+use Rattle.tm_marker.specs.declared.entries.TheConstants.{LONGEST_SLICE, PORTS}
+use Rattle.tm_lines.specs.declared.fault.Reason.{Reason}
+use Rattle.tm_lines.specs.declared.fault.Reason.TheVariants.{Form}
+use Rattle.tm_lines.specs.declared.fault.Fault.{Fault}
+use Rattle.tm_lines.specs.Steps.{◌>>=◌, tested}
+use Rattle.tm_lines.specs.Lines.{pieces, from_header, lines_on}
+use Rattle.tm_lines.specs.Numbers.{number_in}
 
--- a slice runs at most 1,048,576 instructions, after an arrival of some of 16 lines with four port words
+-- a slice runs no more instructions than it may, after an arrival of some of 16 lines with a word for each port
 pub record IsSlice (slice : Slice) : Type 0 where
-  pub short : slice.length ≤ 1048576
+  pub short : slice.length ≤ LONGEST_SLICE
   pub lines : slice.mask < 65536
-  pub ports : length slice.ports ≡ 4
+  pub ports : length slice.ports ≡ PORTS
 
 -- the four port words, which are 0 where none is given
 abbrev pub ports_in : List (List ℕ) → Result (List ℕ) Reason
@@ -38,7 +39,7 @@ slice_in _ = Err Form
 -- the slices with one more at the end
 abbrev pub new_slice : List Slice → Slice → Result (List Slice) Reason
 new_slice slices slice = tested
-    (nat_lt 1048576 slice.length || nat_lt 65535 slice.mask)
+    (nat_lt LONGEST_SLICE slice.length || nat_lt 65535 slice.mask)
     false
     false
     (slices ++ slice ∷ [])

@@ -1,8 +1,8 @@
 -- What the words of an image's line say, below its keyword: first its form, then its numbers.
 use Rattle.std.specs.Prelude.{ℕ, Bool, true, false, List, [], ◌∷◌, codes, if◌then◌else◌, Result, Ok, Err}
 use Rattle.std.specs.Str.{bytes_eq}
-use Rattle.tm_image.specs.declared.fault.Reason.{Reason}
-use Rattle.tm_image.specs.declared.fault.Reason.TheVariants.{Form}
+use Rattle.tm_lines.specs.declared.fault.Reason.{Reason}
+use Rattle.tm_lines.specs.declared.fault.Reason.TheVariants.{Form}
 use Rattle.tm_image.specs.declared.said.Keyword.{Keyword}
 use Rattle.tm_image.specs.declared.said.Keyword.TheVariants.{Task, Text, Data, Resource, Alarm, Box, Line, Ring}
 use Rattle.tm_image.specs.declared.said.TaskLine.{TaskLine}
@@ -19,8 +19,8 @@ use Rattle.tm_image.specs.declared.said.LineLine.{LineLine}
 use Rattle.tm_image.specs.declared.rings.RingName.{RingName}
 use Rattle.tm_image.specs.declared.rings.RingName.TheVariants as ring
 use Rattle.tm_image.specs.declared.said.RingLine.{RingLine}
-use Rattle.tm_image.specs.Steps.{◌>>=◌}
-use Rattle.tm_image.specs.Numbers.{number_in, word_in, all_in}
+use Rattle.tm_lines.specs.Steps.{◌>>=◌}
+use Rattle.tm_lines.specs.Numbers.{number_in, word_in, all_in}
 
 -- the keyword that a token spells
 abbrev pub keyword_in : List ℕ → Result Keyword Reason

@@ -2,13 +2,11 @@
 
 ghost use Rattle.std.specs.Prelude.{◌≡◌, ◌<◌, ◌≤◌, All, false, length, map, slice_get, unwrap_or, IfOk};
 ghost use Rattle.std.specs.List.{list_any};
-ghost use Rattle.tm_image.specs.Steps.{Answers};
+ghost use Rattle.tm_lines.specs.Steps.{Answers};
 ghost use Rattle.tm_image.specs.Load.{has_no_text, is_outside};
 ghost use Rattle.tm_image.specs.Draft.{Draft, empty_draft, is_taken, is_off_range, is_no_task, has_twice, mask_of, task_of, action_of, names_no_task, line_action_of, is_given, caps_of, new_task, new_text, new_data_words, new_resource, new_alarm, new_box, new_line, new_ring, whole};
 
-use crate::Reason;
-use crate::lines::Format;
-use crate::load::{Loaded, MOST_WORDS, add_text, set_data};
+use crate::load::{Loaded, add_text, set_data};
 use crate::rings::Rings;
 use crate::said::{
     AlarmLine, BoxLine, DataLine, Keyword, LineAction, LineLine, ResourceLine, RingLine,
@@ -17,11 +15,11 @@ use crate::said::{
 };
 use std::alloc::{AllocError, Global};
 use std::marker::Model;
-use tm_kernel::{Action, KernelSpec, TaskSpec};
-use tm_marker::{Caps, Items};
-
-/// How many tasks, resources, alarms and boxes an image has at most.
-const MOST_OF_EACH: u32 = 16;
+use tm_kernel::{
+    Action, KernelSpec, MOST_ALARMS, MOST_BOXES, MOST_MESSAGES, MOST_RESOURCES, TaskSpec,
+};
+use tm_lines::{Format, Reason};
+use tm_marker::{Caps, Items, LINES, MOST_TASKS, MOST_WORDS};
 
 /// What the lines so far say.
 #[derive(Debug, Drop)]
@@ -33,13 +31,14 @@ pub(crate) struct Reading {
 
 impl Model for Reading {
     ghost use Rattle.std.specs.Prelude.{◌≤◌, length};
+    ghost use Rattle.tm_marker.specs.declared.shape.TheConstants.{MOST_TASKS};
     ghost use Rattle.tm_image.specs.Draft.{Draft};
 
     ghost Value = { Draft };
 
     ghost view = { λ r. record { spec = r.spec; loads = r.loads.items; rings = r.rings } };
 
-    ghost invariant = { λ r. length r.spec.tasks ≤ 16 };
+    ghost invariant = { λ r. length r.spec.tasks ≤ MOST_TASKS };
 }
 
 /// Whether a line `task` has a number outside its range.
@@ -48,7 +47,7 @@ fn is_off_range(line: &TaskLine) -> bool
 {
     !(1..=255).contains(&line.priority)
         || line.entry % 4 != 0
-        || !(1..=MOST_WORDS as u32).contains(&line.words)
+        || !(1..=MOST_WORDS).contains(&line.words)
 }
 
 /// Whether some number stands twice in the list.
@@ -115,7 +114,7 @@ impl Reading {
                 users: Items::new(alloc),
                 alarms: Items::new(alloc),
                 boxes: Items::new(alloc),
-                lines: [Action::Nothing; 16],
+                lines: [Action::Nothing; LINES],
             },
             loads: Vec::new(alloc),
             rings: Rings::NONE,
@@ -188,7 +187,7 @@ impl Reading {
         if number < self.spec.tasks.len() || self.is_taken(line.priority) {
             return Err(Reason::Repeated);
         }
-        if line.number == MOST_OF_EACH {
+        if line.number == MOST_TASKS {
             return Err(Reason::Limit);
         }
         let load = Loaded::new(alloc, line.entry, line.words)?;
@@ -224,7 +223,7 @@ impl Reading {
         if number < self.spec.users.len() || has_twice(users) {
             return Err(Reason::Repeated);
         }
-        if line.number == MOST_OF_EACH {
+        if line.number == MOST_RESOURCES {
             return Err(Reason::Limit);
         }
         self.spec.users.push(mask_of(users))?;
@@ -241,7 +240,7 @@ impl Reading {
         if number < self.spec.alarms.len() {
             return Err(Reason::Repeated);
         }
-        if line.number == MOST_OF_EACH {
+        if line.number == MOST_ALARMS {
             return Err(Reason::Limit);
         }
         self.spec.alarms.push(action_of(line.action))?;
@@ -252,13 +251,13 @@ impl Reading {
         ensures { Answers (λ _. self.new) result (new_box self.old line.now) }
     {
         let number = line.number as usize;
-        if number > self.spec.boxes.len() || !(1..=64).contains(&line.capacity) {
+        if number > self.spec.boxes.len() || !(1..=MOST_MESSAGES).contains(&line.capacity) {
             return Err(Reason::Range);
         }
         if number < self.spec.boxes.len() {
             return Err(Reason::Repeated);
         }
-        if line.number == MOST_OF_EACH {
+        if line.number == MOST_BOXES {
             return Err(Reason::Limit);
         }
         self.spec.boxes.push(line.capacity as u8)?;

@@ -2,14 +2,14 @@
 
 ghost use Rattle.std.specs.Prelude.{◌≡◌, [], ◌∷◌, ◌++◌, Some, true, false, codes, replicate, is_ok, IsOkAnd};
 ghost use Rattle.tm_kernel.specs.declared.spec.Action.TheVariants.{Nothing, Tick, Activate, Event};
-ghost use Rattle.tm_image.specs.declared.fault.Reason.{Reason};
+ghost use Rattle.tm_lines.specs.declared.fault.Reason.{Reason};
 ghost use Rattle.tm_image.specs.Load.{more_text};
 ghost use Rattle.tm_image.specs.Image.{image_digest, image_of};
 ghost use Rattle.tm_image.specs.Plan.{plan_of};
 ghost use Rattle.tm_image.specs.Examples.{one_task, with_text, sixteen_tasks, sixteen_resources, sixteen_alarms, sixteen_boxes, greatest_rings};
 
 /// What some plans say.
-#[tactic(auto, unfolding(crate::specs::Plan::plan_of, crate::specs::Numbers::number_in))]
+#[tactic(auto, unfolding(crate::specs::Plan::plan_of, tm_lines::specs::Numbers::number_in))]
 pub fn plan_examples()
     ensures slices { plan_of (codes "tmplan 1\nslice 5 0\nslice 1048576 0x1f 1 02 3 0xFfffffff\n")
         ≡ Ok (record { length = 5; mask = 0; ports = 0 ∷ 0 ∷ 0 ∷ 0 ∷ [] } ∷ record { length = 1048576; mask = 31; ports = 1 ∷ 2 ∷ 3 ∷ 4294967295 ∷ [] } ∷ []) }
@@ -28,7 +28,7 @@ pub fn plan_examples()
 {}
 
 /// What an image says, and why some texts are none.
-#[tactic(auto, unfolding(crate::specs::Image::image_of, crate::specs::Image::draft_of, crate::specs::Numbers::number_in, crate::specs::Numbers::word_in))]
+#[tactic(auto, unfolding(crate::specs::Image::image_of, crate::specs::Image::draft_of, tm_lines::specs::Numbers::number_in, tm_lines::specs::Numbers::word_in))]
 pub fn image_examples()
     ensures all_keywords { let text = codes "tmi 1\ntask 0 extended 9 auto 4 3\ntext 0 00000013 0000006F\ntext 0 ffffffff\ndata 0 1 00000007 00000008\ndata 0 2 00000009\ntask 1 basic 1 off 0 1\ntext 1 00000073\nresource 0 0 1\nalarm 0 event 0 3\nalarm 1 activate 1\nbox 0 64\nline 3 tick\nline 15 activate 1\nring data 65536\nring checks 64\n" in
         image_of text ≡ Ok (record {
@@ -70,7 +70,7 @@ pub fn image_examples()
 {}
 
 /// The last line of a plan that is within its limits, and the first that is not.
-#[tactic(auto, unfolding(crate::specs::Plan::plan_of, crate::specs::Numbers::number_in))]
+#[tactic(auto, unfolding(crate::specs::Plan::plan_of, tm_lines::specs::Numbers::number_in))]
 pub fn plan_limits()
     ensures slice { plan_of (codes "tmplan 1\nslice 1048576 0xffff\n") ≡ Ok (record { length = 1048576; mask = 65535; ports = 0 ∷ 0 ∷ 0 ∷ 0 ∷ [] } ∷ []) }
     ensures longer { plan_of (codes "tmplan 1\nslice 1048577 0\n") ≡ Err (record { line = 2; reason = Reason.Range }) }
@@ -78,7 +78,7 @@ pub fn plan_limits()
 {}
 
 /// The last line of an image that is within its limits, and the first that is not.
-#[tactic(auto, unfolding(crate::specs::Image::image_of, crate::specs::Image::draft_of, crate::specs::Numbers::number_in, crate::specs::Numbers::word_in))]
+#[tactic(auto, unfolding(crate::specs::Image::image_of, crate::specs::Image::draft_of, tm_lines::specs::Numbers::number_in, tm_lines::specs::Numbers::word_in))]
 pub fn image_limits()
     ensures tasks { image_of sixteen_tasks ≡ Err (record { line = 18; reason = Reason.Missing }) }
     ensures more_tasks { image_of (sixteen_tasks ++ codes "task 16 basic 17 auto 0 1\n") ≡ Err (record { line = 18; reason = Reason.Limit }) }

@@ -2,19 +2,21 @@
 
 ghost use Rattle.std.specs.Prelude.{◌≡◌, ◌<◌, ◌≤◌, ◌-◌, ◌^◌, length, IfOk};
 ghost use Rattle.tm_marker.specs.Shape.{IsShape};
-ghost use Rattle.tm_image.specs.Steps.{Gives};
+ghost use Rattle.tm_lines.specs.Steps.{Gives};
 ghost use Rattle.tm_image.specs.Draft.{Draft};
 ghost use Rattle.tm_image.specs.Image.{load_of, entry_of, text_of, words_of, shape_of, IsLoad, IsImage, image_digest, draft_of, image_of};
 
 use crate::draft::Reading;
-use crate::lines::{below_header, take_lines};
-use crate::{Fault, ImageFault};
 use sha2::{Digest, Sha256};
 use std::alloc::Global;
 use std::marker::Model;
 use tm_kernel::KernelSpec;
+use tm_lines::{Fault, below_header, take_lines};
 use tm_marker::Shape;
 use tm_rv::Code;
+
+/// Why an image was not read.
+pub type ImageFault = Fault;
 
 /// What a machine of 1 to 16 tasks is made of. The tasks are numbered from 0 in the order of the
 /// file; each has 1 to 16,384 words of text and of data, and an entry inside its text. With it go the
@@ -54,6 +56,13 @@ impl Image {
         ensures sound { IsShape (shape_of self.now) }
     {
         &self.shape
+    }
+
+    /// What every image keeps. It does nothing: a proof takes it from here.
+    pub fn attest(&self)
+        ensures { IsImage self.now }
+    {
+        let _value = &self.parts;
     }
 
     /// The number of tasks, 1 to 16.

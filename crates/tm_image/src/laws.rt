@@ -2,12 +2,12 @@
 
 ghost use Rattle.std.specs.Prelude.{◌≡◌, ℕ, List};
 ghost use Rattle.tm_marker.specs.declared.entries.Slice.{Slice};
-ghost use Rattle.tm_image.specs.declared.fault.Fault.{Fault};
-ghost use Rattle.tm_image.specs.Lines.{lines_on};
+ghost use Rattle.tm_lines.specs.declared.fault.Fault.{Fault};
+ghost use Rattle.tm_lines.specs.Lines.{lines_on};
 ghost use Rattle.tm_image.specs.Plan.{plan_line, plan_of};
 ghost use Rattle.tm_image.specs.Draft.{Draft, image_line};
 ghost use Rattle.tm_image.specs.Image.{image_of};
-ghost use Rattle.tm_image.specs.Laws.{IsFirstFault, NeverMemory};
+ghost use Rattle.tm_lines.specs.Laws.{IsFirstFault, NeverMemory};
 
 /// The fault of a plan's lines is that of the first line that is refused, and conversely.
 pub fn plan_faults_are_first()

@@ -1,10 +1,7 @@
 //! Text files read into values: what a machine is made of, and the slices that it is to run.
 //!
 //! [`read_image`] reads an [`Image`], and [`read_plan`] a [`Plan`]; a [`Fault`] says which line of a
-//! text was refused first, and why. A line ends with LF, which the last line may lack, and one CR
-//! before its end is dropped. Its tokens are parted by spaces and tabs, and the first says what the
-//! others mean. A line without tokens, or whose first token begins with `#`, is skipped. A number is
-//! `0x` and 1 to 8 hexadecimal digits, or 1 to 10 decimal digits; a word is 8 hexadecimal digits.
+//! text was refused first, and why. How lines, tokens and numbers are spelled is said in [`tm_lines`].
 //!
 //! ```text
 //! tmi 1                                     tmplan 1
@@ -20,21 +17,18 @@
 
 mod draft;
 mod examples;
-mod fault;
 mod image;
 mod laws;
-mod lines;
 mod load;
-mod numbers;
 mod plan;
 mod rings;
 mod said;
 
 pub use examples::{image_examples, image_limits, plan_examples, plan_limits};
-pub use fault::{Fault, ImageFault, PlanFault, Reason};
-pub use image::{Image, read_image};
+pub use image::{Image, ImageFault, read_image};
 pub use laws::{faults_are_never_memory, image_faults_are_first, plan_faults_are_first};
-pub use plan::{Plan, read_plan};
+pub use plan::{Plan, PlanFault, read_plan};
+pub use tm_lines::{Fault, Reason};
 
 #[cfg(test)]
 mod tests;

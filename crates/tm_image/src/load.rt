@@ -1,18 +1,15 @@
 //! What one task is loaded from.
 
 ghost use Rattle.std.specs.Prelude.{◌≡◌, ◌<◌, ◌^◌, [], length, replicate, Option, Some, IfOk};
-ghost use Rattle.tm_image.specs.Steps.{Answers};
+ghost use Rattle.tm_lines.specs.Steps.{Answers};
 ghost use Rattle.tm_image.specs.Load.{Load, has_no_text, is_outside, more_text, with_text, new_data, with_data};
 
-use crate::Reason;
 use crate::said::{DataLine, TextLine};
 use std::alloc::{AllocError, Global};
 use std::marker::Model;
-use tm_marker::Items;
+use tm_lines::Reason;
+use tm_marker::{Items, MOST_WORDS};
 use tm_rv::Code;
-
-/// How many words a task's text and data have at most.
-pub(crate) const MOST_WORDS: usize = 16_384;
 
 /// A task's entry, in bytes, its text, and its data words at boot.
 #[derive(Debug, Drop)]
@@ -24,13 +21,14 @@ pub(crate) struct Loaded {
 
 impl Model for Loaded {
     ghost use Rattle.std.specs.Prelude.{◌≤◌, ◌<◌, ◌^◌, length};
+    ghost use Rattle.tm_marker.specs.declared.shape.TheConstants.{MOST_WORDS};
     ghost use Rattle.tm_image.specs.Load.{Load};
 
     ghost Value = { Load };
 
     ghost view = { λ l. record { entry = l.entry; text = l.text; words = l.words.items } };
 
-    ghost invariant = { λ l. (length l.text ≤ 16384) × (length l.words.items < 2 ^ 32) };
+    ghost invariant = { λ l. (length l.text ≤ MOST_WORDS) × (length l.words.items < 2 ^ 32) };
 }
 
 impl Loaded {
@@ -82,7 +80,7 @@ impl Loaded {
     fn add_text(&mut self, words: &[u32]) -> Result<(), Reason>
         ensures { Answers (λ _. self.new) result (more_text words.now (Some self.old)) }
     {
-        if self.text.words().len() + words.len() > MOST_WORDS {
+        if self.text.words().len() + words.len() > MOST_WORDS as usize {
             return Err(Reason::Limit);
         }
         self.text.extend(words)?;

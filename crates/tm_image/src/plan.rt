@@ -1,20 +1,18 @@
 //! A plan: the slices that a machine is to run.
 
 ghost use Rattle.std.specs.Prelude.{◌≡◌, ◌<◌, ◌≤◌, ◌-◌, ◌^◌, [], ◌∷◌, length, map, All, IfOk};
-ghost use Rattle.tm_image.specs.Steps.{Answers, Gives};
+ghost use Rattle.tm_lines.specs.Steps.{Answers, Gives};
 ghost use Rattle.tm_image.specs.Plan.{IsSlice, ports_in, slice_in, new_slice, plan_of};
 
-use crate::lines::{Format, below_header, spells, take_lines};
-use crate::numbers::number_at;
-use crate::{PlanFault, Reason};
 use std::alloc::Global;
 use std::marker::Model;
-use tm_marker::{Items, Slice};
+use tm_lines::{Fault, Format, Reason, below_header, number_at, spells, take_lines};
+use tm_marker::{Items, LONGEST_SLICE, Slice};
 
-/// How many instructions a slice runs at most.
-const LONGEST_SLICE: u32 = 1_048_576;
+/// Why a plan was not read.
+pub type PlanFault = Fault;
 
-/// The mask of all 16 lines.
+/// The mask of all lines.
 const ALL_LINES: u32 = 0xffff;
 
 /// The slices of a plan, in order: each with a length of at most 1,048,576 and a mask of 16 lines.

@@ -3,7 +3,7 @@
 ghost use Rattle.std.specs.Prelude.{◌≡◌, is_some};
 ghost use Rattle.tm_image.specs.Draft.{most_of, ring_of, with_ring, caps_of};
 
-use tm_marker::Caps;
+use tm_marker::{Caps, MOST_CHECKPOINTS, MOST_ITEMS};
 
 /// The rings that a line `ring` can name.
 #[derive(Clone, Copy, Debug, PartialEq, Eq)]
@@ -20,10 +20,8 @@ impl RingName {
         ensures { result ≡ most_of self }
     {
         match self {
-            RingName::Control => 65_536,
-            RingName::Data => 65_536,
-            RingName::Outputs => 65_536,
-            RingName::Checks => 64,
+            RingName::Control | RingName::Data | RingName::Outputs => MOST_ITEMS,
+            RingName::Checks => MOST_CHECKPOINTS,
         }
     }
 }

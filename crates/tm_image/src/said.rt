@@ -1,14 +1,12 @@
 //! What the words of an image's line say, below its keyword.
 
 ghost use Rattle.std.specs.Prelude.{◌≡◌, [], ◌∷◌, map};
-ghost use Rattle.tm_image.specs.Steps.{Answers};
+ghost use Rattle.tm_lines.specs.Steps.{Answers};
 ghost use Rattle.tm_image.specs.Said.{keyword_in, kind_in, start_in, task_in, text_in, data_in, resource_in, activate_in, event_in, action_in, alarm_in, box_in, is_tick, line_action_in, line_in, ring_name_in, ring_in};
 
-use crate::Reason;
-use crate::lines::spells;
-use crate::numbers::{number_at, numbers_at, words_at};
 use crate::rings::RingName;
 use std::alloc::Global;
+use tm_lines::{Reason, number_at, numbers_at, spells, words_at};
 use tm_marker::Items;
 
 /// The first word of an image's line.

@@ -1,9 +1,9 @@
 -- What the files of a command say.
 use Rattle.std.specs.Prelude.{ℕ, List, Option, Result, Ok, Err}
 use Rattle.tm_marker.specs.declared.entries.Slice.{Slice}
-use Rattle.tm_image.specs.declared.fault.Fault.{Fault}
-use Rattle.tm_image.specs.declared.fault.Reason.{Reason}
-use Rattle.tm_image.specs.declared.fault.Reason.TheVariants as reason
+use Rattle.tm_lines.specs.declared.fault.Fault.{Fault}
+use Rattle.tm_lines.specs.declared.fault.Reason.{Reason}
+use Rattle.tm_lines.specs.declared.fault.Reason.TheVariants as reason
 use Rattle.tm_image.specs.Image.{ImageView, image_of}
 use Rattle.tm_image.specs.Plan.{plan_of}
 use Rattle.tm_prog.specs.declared.status.Status.{Status}

@@ -1,6 +1,6 @@
 -- What a reading of files gives, and what it leaves of the shelf.
 use Rattle.std.specs.Prelude.{◌≡◌, ◌≢◌, ℕ, ◌⊎◌, List, length, nat_le, if◌then◌else◌, Option, Some, None, Result, Ok, Err, IsTrue}
-use Rattle.tm_image.specs.declared.fault.Reason.TheVariants as reason
+use Rattle.tm_lines.specs.declared.fault.Reason.TheVariants as reason
 use Rattle.tm_io.specs.Shelf.{ShelfView, get_failed}
 use Rattle.tm_prog.specs.declared.status.Status.{Status}
 use Rattle.tm_prog.specs.declared.status.Status.TheVariants as status

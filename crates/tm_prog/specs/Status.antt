@@ -1,8 +1,8 @@
 -- The numbers and the lines of the statuses.
 use Rattle.std.specs.Prelude.{ℕ, Bool, true, false, List, [], ◌∷◌, ◌++◌, codes, decimal}
-use Rattle.tm_image.specs.declared.fault.Fault.{Fault}
-use Rattle.tm_image.specs.declared.fault.Reason.{Reason}
-use Rattle.tm_image.specs.declared.fault.Reason.TheVariants as reason
+use Rattle.tm_lines.specs.declared.fault.Fault.{Fault}
+use Rattle.tm_lines.specs.declared.fault.Reason.{Reason}
+use Rattle.tm_lines.specs.declared.fault.Reason.TheVariants as reason
 use Rattle.tm_prog.specs.declared.status.Status.{Status}
 use Rattle.tm_prog.specs.declared.status.Status.TheVariants as status
 

@@ -1,5 +1,5 @@
 use Rattle.tm_image.specs.Plan.{plan_line}
-use Rattle.tm_image.proofs.First.{first_told, first_gives}
+use Rattle.tm_lines.proofs.First.{first_told, first_gives}
 use Rattle.tm_image.proofs.laws.plan_faults_are_first.Goals as goal
 
 pub returns-clause-told : goal.returns-clause-told

@@ -1,0 +1,7 @@
+pub mod Cuts
+pub mod Bounds
+pub mod Fronts
+pub mod Steps
+pub mod Keeping
+pub mod First
+pub mod Calm
