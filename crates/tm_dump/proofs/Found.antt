@@ -182,7 +182,7 @@ pub record GoodSwitch (tasks : ℕ) (before : Option Switch) (e : Switch) : Type
   pub from_there : IsTaskOrNobody tasks e.from
   pub follows_on : follows before e.from ≡ true
   pub idle : e.kind ≡ Idle → e.from ≡ nobody
-  pub nobody : e.from ≡ nobody → e.kind ≡ Idle
+  pub none : e.from ≡ nobody → e.kind ≡ Idle
   pub from_marker : IsMarker e.from_at
   pub from_zero : e.from ≡ nobody → e.from_at ≡ zero_marker
   pub from_fits : FitsMarker e.from_at
@@ -205,7 +205,7 @@ found_switch tasks before e at rest g here =
     let f = by_rule at (λ n. is_task_or_nobody tasks n && follows before n) (byte_in at) e.from r1
     (and_from (is_task_or_nobody tasks e.from) (follows before e.from) (there_rule tasks e.from g.from_there) g.follows_on)
     (found_byte at e.from r1 (here ∙ four (e.from ∷ kind_number e.kind ∷ []) (marker_bytes e.from_at) (e.to ∷ []) (marker_bytes e.to_at) rest)) in
-    let k = by_rule f.after (is_kind_from e.from) (byte_in f.after) (kind_number e.kind) r2 (kind_by (e.from == nobody) e.from e.kind refl g.idle g.nobody) (found_byte f.after (kind_number e.kind) r2 f.left) in
+    let k = by_rule f.after (is_kind_from e.from) (byte_in f.after) (kind_number e.kind) r2 (kind_by (e.from == nobody) e.from e.kind refl g.idle g.none) (found_byte f.after (kind_number e.kind) r2 f.left) in
     let k_is : kind_in e.from f.after ≡ Ok (e.kind, k.after) = then_is (byte_where (is_kind_from e.from) f.after) as_kind (kind_number e.kind, k.after) (Ok (e.kind, k.after)) k.is
     (ap (λ kind. Ok (kind, k.after)) (kind_again e.kind)) in
     let fm = found_marker (e.from == nobody) e.from_at k.after r3 g.from_marker g.from_fits (λ none. g.from_zero (grind (arith, nat_tests, none))) k.left in
