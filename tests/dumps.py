@@ -1,7 +1,10 @@
 """Dumps, decoded by the table of docs/formats.md, and what the text of a run tells of its dump."""
 import hashlib
+import os
 import struct
 from types import SimpleNamespace
+
+from shared import check, read, recorded_runs
 
 NOBODY, DATA = 255, 0x10000000
 KINDS = ("preempted", "waits", "ends", "fault", "shutdown", "idle")
@@ -168,3 +171,13 @@ def wrong_in(dump, image, text):
     }
     wrong = [f"{what} {got!r}, wanted {wanted!r}"[:400] for what, (got, wanted) in facts.items() if got != wanted]
     return wrong + list(wrong_checkpoints(fields, told)) + list(wrong_ranges(fields))
+
+
+def recorded(shelf):
+    """Records each run whose text is known, and gives its name, the folder of its image, the image, the path of the
+    dump, the decoded dump and the text."""
+    dump = os.path.join(shelf, "recorded.dump")
+    for name, folder, words, text in recorded_runs():
+        image, plan = words[1:]
+        check(f"{name} recorded", ["record", image, plan, dump], 0, b"", "", folder)
+        yield name, folder, image, dump, decode(read(dump), *shape_of(read(os.path.join(folder, image)))), text

@@ -1,7 +1,8 @@
 """From which points a run can be replayed with what its dump keeps, and the text from such a point; both are worked
 out from the decoded dump and from the whole text, as docs/formats.md says."""
-from dumps import NOBODY, STATES, blocks_of, follow, marker, task
 from types import SimpleNamespace
+
+from dumps import NOBODY, blocks_of, follow, task
 
 
 def first_kept(ring):
