@@ -29,6 +29,3 @@ pub use image::{Image, ImageFault, read_image};
 pub use laws::{faults_are_never_memory, image_faults_are_first, plan_faults_are_first};
 pub use plan::{Plan, PlanFault, read_plan};
 pub use tm_lines::{Fault, Reason};
-
-#[cfg(test)]
-mod tests;

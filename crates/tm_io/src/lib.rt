@@ -15,8 +15,6 @@ mod out_sink;
 mod refill;
 mod shelf;
 mod sink;
-#[cfg(test)]
-mod tests;
 mod whole_file;
 
 pub use file_shelf::FileShelf;

@@ -19,6 +19,3 @@ pub use tm_marker::{LINES, Service};
 pub use tm_services::{
     E_OK, E_OS_ACCESS, E_OS_ID, E_OS_LIMIT, E_OS_NOFUNC, E_OS_RESOURCE, E_OS_STATE, E_OS_VALUE,
 };
-
-#[cfg(test)]
-mod tests;

@@ -30,6 +30,3 @@ pub use formats::{
 pub use instr::{Instr, Op};
 pub use names::name;
 pub use table::no_word_in_two_rows;
-
-#[cfg(test)]
-mod tests;

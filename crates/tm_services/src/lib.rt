@@ -16,6 +16,3 @@ pub use ceilings::Ceilings;
 pub use status::{
     E_OK, E_OS_ACCESS, E_OS_ID, E_OS_LIMIT, E_OS_NOFUNC, E_OS_RESOURCE, E_OS_STATE, E_OS_VALUE,
 };
-
-#[cfg(test)]
-mod tests;

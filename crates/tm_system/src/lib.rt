@@ -14,6 +14,3 @@ pub use diverged::{Diverged, Why};
 pub use laws::{examples, lists_gain_what_is_told, replay_examples, turns_add_up, walks_go_on};
 pub use machine::{Machine, Told};
 pub use runs::scripts_are_runs;
-
-#[cfg(test)]
-mod tests;

@@ -20,6 +20,3 @@ pub use laws::{instructions_are_orderly, places_rise, places_stay};
 pub use memory::DATA_START;
 pub use outcome::{Cause, Stepped};
 pub use task::Task;
-
-#[cfg(test)]
-mod tests;

@@ -10,8 +10,6 @@ mod differences;
 mod lines;
 mod replay;
 mod seen;
-#[cfg(test)]
-mod tests;
 mod values;
 mod words;
 mod write;

@@ -4,10 +4,10 @@ ghost use Rattle.std.specs.Prelude.{IfOk};
 ghost use Rattle.tm_kernel.specs.Spec.{IsKernelSpec};
 
 use super::task;
-use crate::{Action, Answer, Kernel, KernelSpec, Need};
 use std::alloc::{AllocError, Global};
 use std::process::Abort;
 use std::test::Fail;
+use tm_kernel::{Action, Answer, Kernel, KernelSpec, Need};
 use tm_marker::{Items, Kind, OutputEntry};
 
 /// A call of the running task: the service, and its first three arguments.

@@ -5,9 +5,9 @@ ghost use Rattle.tm_kernel.specs.Spec.{IsKernelSpec};
 
 mod services;
 
-use crate::{Action, Kernel, KernelSpec, Need, TaskSpec};
 use std::alloc::{AllocError, Global};
 use std::test::Fail;
+use tm_kernel::{Action, Kernel, KernelSpec, Need, TaskSpec};
 use tm_marker::{Items, Kind, NOBODY};
 
 /// What is done before a rescheduling.

@@ -1,8 +1,8 @@
 //! Cases worked by hand.
 
-use crate::Cause;
-use crate::Cause::{Break, Illegal, Range, Target, TextWrite, Unaligned};
 use Want::{A0, A2, Call, Fault, LinkA0, LinkA2, Stored, Went};
+use tm_task::Cause;
+use tm_task::Cause::{Break, Illegal, Range, Target, TextWrite, Unaligned};
 
 /// What a case expects of the instruction at address 4.
 #[derive(Clone, Copy)]

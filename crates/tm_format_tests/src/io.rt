@@ -1,7 +1,7 @@
 //! The texts of the faults.
 
-use crate::{Failed, GetFault, PutFault};
 use std::test::Fail;
+use tm_io::{Failed, GetFault, PutFault};
 
 #[test]
 fn each_fault_has_its_text(rt: HostRuntime) -> Result<(), Fail> {

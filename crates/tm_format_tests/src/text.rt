@@ -3,10 +3,10 @@
 ghost use Rattle.std.specs.Prelude.{◌≡◌};
 ghost use Rattle.tm_marker.specs.declared.tail.TheConstants.{NOBODY};
 
-use crate::{Seen, Stop, Track, changes, write_end, write_start, write_stop};
 use std::alloc::Global;
 use std::test::Fail;
 use tm_marker::{Items, Kind, Marker, NOBODY, OutputEntry, Switch, Tail};
+use tm_text::{Seen, Stop, Track, changes, write_end, write_start, write_stop};
 
 const LOOPED: Marker = Marker {
     epoch: 0,

@@ -2,8 +2,8 @@
 
 ghost use Rattle.std.specs.Prelude.{◌≡◌};
 
-use crate::{Alarms, Ceilings, Left};
 use std::test::Fail;
+use tm_services::{Alarms, Ceilings, Left};
 
 /// A call on the resources.
 #[derive(Clone, Copy, Debug)]

@@ -2,11 +2,11 @@
 
 mod cell;
 
-use crate::{Fault, Image, Plan, Reason, read_image, read_plan};
 use cell::CELL;
 use std::alloc::{AllocError, Global};
 use std::process::Abort;
 use std::test::Fail;
+use tm_image::{Fault, Image, Plan, Reason, read_image, read_plan};
 use tm_kernel::{Action, TaskSpec};
 use tm_marker::{Caps, Slice};
 

@@ -4,13 +4,13 @@ ghost use Rattle.std.specs.Prelude.{◌≡◌, IfOk};
 
 mod cases;
 
-use super::*;
 use cases::{ARITHMETIC, Case, LOADS, OTHERS, STORES, TEXT_END, TRANSFERS, WORDS, Want};
 use std::alloc::Global;
 use std::process::Abort;
 use std::test::Fail;
 use tm_marker::{DataEntry, Marker};
 use tm_rv::Code;
+use tm_task::{Cause, Stepped, Task};
 
 /// The text of these words.
 fn code_of(alloc: Global, words: &[u32]) -> Result<Code, Fail>
@@ -218,7 +218,10 @@ fn an_epoch_ends_at_its_last_count(rt: HostRuntime) -> Result<(), Fail> {
 #[test]
 fn goes_on_as_far_as_it_may(rt: HostRuntime) -> Result<(), Fail> {
     // addi a7, x0, 7; addi a0, a0, 1; ecall; jal x0, -8
-    let text = code_of(rt.alloc(), &[0x0070_0893, 0x0015_0513, 0x0000_0073, 0xff9f_f06f])?;
+    let text = code_of(
+        rt.alloc(),
+        &[0x0070_0893, 0x0015_0513, 0x0000_0073, 0xff9f_f06f],
+    )?;
     let mut task = Task::new(rt.alloc(), 0, &WORDS)?;
     assert_eq!(rt; task.advance(&text, 1), 1);
     assert_eq!(rt; task.advance(&text, 0), 0);

@@ -3,12 +3,12 @@
 ghost use Rattle.std.specs.Prelude.{◌≡◌, ◌<◌};
 ghost use Rattle.tm_system.specs.Machine.{IsMachine};
 
-use super::{Machine, Told};
 use std::alloc::Global;
 use std::process::Abort;
 use std::test::Fail;
 use tm_image::{Image, read_image};
 use tm_marker::{DataEntry, Kind, Marker, NOBODY, Switch};
+use tm_system::{Machine, Told};
 
 const ENDS: &[u8] = b"tmi 1\ntask 0 basic 1 auto 0 1\ntext 0 00200893 00000073\n";
 

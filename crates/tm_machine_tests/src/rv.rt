@@ -1,7 +1,7 @@
 //! The table against words that another assembler made, apart from this crate.
 
-use super::*;
 use std::test::Fail;
+use tm_rv::{Instr, Op, decode, encode, name};
 
 // A word, and what it is decoded to: operation, rd, rs1, rs2, and the immediate.
 static DECODED: [(u32, Op, [u8; 3], u32); 75] = [
