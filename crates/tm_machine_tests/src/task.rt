@@ -1,6 +1,6 @@
 //! Instructions and answers, against values worked by hand.
 
-ghost use Rattle.std.specs.Prelude.{◌≡◌, IfOk};
+ghost use Rattle.std.specs.Prelude.{◌<◌, ◌≤◌, length, IfOk};
 
 mod cases;
 
@@ -14,7 +14,9 @@ use tm_task::{Cause, Stepped, Task};
 
 /// The text of these words.
 fn code_of(alloc: Global, words: &[u32]) -> Result<Code, Fail>
-    ensures { IfOk result (λ code. code ≡ words.now) }
+    requires some { 0 < length words.now }
+    requires few { length words.now ≤ 16384 }
+    ensures { IfOk result (λ code. (0 < length code) × (length code ≤ 16384)) }
 {
     let mut code = Code::new(alloc);
     code.extend(words)?;
@@ -282,6 +284,8 @@ fn answers(rt: HostRuntime) -> Result<(), Fail> {
         regs[1] = 0x1000_0010;
         regs
     };
+    // 0: ecall; 4: fence; 8: jal x0, -8
+    let text = code_of(rt.alloc(), &[0x0000_0073, 0x0000_000f, 0xff9f_f06f])?;
     for (service, status, anew, epoch) in [
         (1, 0, false, 0),
         (2, 0, true, 1),
@@ -293,8 +297,6 @@ fn answers(rt: HostRuntime) -> Result<(), Fail> {
         (4, 0, false, 0),
         (20, 0, false, 0),
     ] {
-        // 0: ecall; 4: fence; 8: jal x0, -8
-        let text = code_of(rt.alloc(), &[0x0000_0073, 0x0000_000f, 0xff9f_f06f])?;
         let mut task = Task::new(rt.alloc(), 8, &WORDS)?;
         assert_eq!(rt; task.body().regs, boot);
         assert_eq!(rt; task.step(&text), Stepped::Ran);

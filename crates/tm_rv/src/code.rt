@@ -63,7 +63,7 @@ impl Code {
     }
 
     /// The words.
-    #[inline(always)]
+    #[inline]
     pub fn words(&self) -> &[u32]
         ensures { result.now ≡ self.now }
     {
@@ -72,7 +72,7 @@ impl Code {
 
     /// The instruction that the word at an index is. Where it is none: an EBREAK whose immediate is
     /// 1, which no word is decoded to.
-    #[inline(always)]
+    #[inline]
     pub fn at(&self, index: usize) -> &Instr
         requires { index < length self.now }
         ensures kept { result.now ≡ kept (instr_of (slice_index self.now index)) }

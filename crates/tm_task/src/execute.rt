@@ -26,7 +26,12 @@ pub(crate) enum Executed {
 /// Executes the instruction at a program counter.
 #[tactic(auto, unfolding(crate::specs::Exec::exec))]
 #[inline(always)]
-pub(crate) fn execute(code: &Code, pc: u32, regs: &mut Registers, words: &mut Items<u32>) -> Executed
+pub(crate) fn execute(
+    code: &Code,
+    pc: u32,
+    regs: &mut Registers,
+    words: &mut Items<u32>,
+) -> Executed
     ensures { Does (exec code.now (body_at pc regs.old words.old)) (body_at pc regs.old words.old) (body_at pc regs.new words.new) result }
 {
     let text = code.words();

@@ -9,7 +9,7 @@ use tm_marker::Items;
 pub const DATA_START: u32 = 0x1000_0000;
 
 /// Whether the address is in the text.
-#[inline(always)]
+#[inline]
 pub(crate) fn is_in_text(text: &[u32], address: u32) -> bool
     ensures { result ≡ in_text text.now address }
 {
@@ -17,7 +17,7 @@ pub(crate) fn is_in_text(text: &[u32], address: u32) -> bool
 }
 
 /// Whether the address is in the data.
-#[inline(always)]
+#[inline]
 pub(crate) fn is_in_data(words: &Items<u32>, address: u32) -> bool
     ensures { result ≡ in_data words.now address }
 {
@@ -25,7 +25,7 @@ pub(crate) fn is_in_data(words: &Items<u32>, address: u32) -> bool
 }
 
 /// The index of the data word that holds the byte at an address.
-#[inline(always)]
+#[inline]
 pub(crate) fn data_index(address: u32) -> usize
     requires { data_start ≤ address }
     ensures { result ≡ (address - data_start) / 4 }
@@ -34,7 +34,7 @@ pub(crate) fn data_index(address: u32) -> usize
 }
 
 /// The number that 1, 2 or 4 bytes of a word make, from byte `from` on.
-#[inline(always)]
+#[inline]
 #[tactic(auto, using(crate::proofs::Bytes::part_1, crate::proofs::Bytes::part_2, crate::proofs::Bytes::part_4, crate::proofs::Bytes::part_below))]
 pub(crate) fn part(word: u32, from: u32, size: u32) -> u32
     requires size { IsSize size }
@@ -51,7 +51,7 @@ pub(crate) fn part(word: u32, from: u32, size: u32) -> u32
 }
 
 /// A word with 1, 2 or 4 of its bytes, from byte `from` on, replaced by the low ones of a value.
-#[inline(always)]
+#[inline]
 #[tactic(auto, using(crate::proofs::Bytes::splice_is))]
 pub(crate) fn splice(word: u32, from: u32, size: u32, value: u32) -> u32
     requires size { IsSize size }

@@ -19,11 +19,23 @@ use tm_rv::{Instr, Op};
 /// Performs an instruction on the parts of a body: its program counter, its registers and its data
 /// words.
 #[inline(always)]
-pub(crate) fn perform(instr: &Instr, text: &[u32], pc: u32, regs: &mut Registers, words: &mut Items<u32>) -> Executed
+pub(crate) fn perform(
+    instr: &Instr,
+    text: &[u32],
+    pc: u32,
+    regs: &mut Registers,
+    words: &mut Items<u32>,
+) -> Executed
     requires { HasRegisters instr.now }
     ensures { Does (exec_kept text.now (body_at pc regs.old words.old) instr.now) (body_at pc regs.old words.old) (body_at pc regs.new words.new) result }
 {
-    let Instr { op, rd, rs1, rs2, imm } = *instr;
+    let Instr {
+        op,
+        rd,
+        rs1,
+        rs2,
+        imm,
+    } = *instr;
     match op {
         Op::Lui => write(pc, regs, rd, imm),
         Op::Auipc => write(pc, regs, rd, pc.wrapping_add(imm)),
@@ -37,12 +49,57 @@ pub(crate) fn perform(instr: &Instr, text: &[u32], pc: u32, regs: &mut Registers
         Op::Bgeu => branch(pc, imm, !(regs.get(rs1) < regs.get(rs2))),
         Op::Lb => load_byte_signed(text, pc, regs, words, rd, regs.get(rs1).wrapping_add(imm)),
         Op::Lh => load_half_signed(text, pc, regs, words, rd, regs.get(rs1).wrapping_add(imm)),
-        Op::Lw => load(text, pc, regs, words, rd, regs.get(rs1).wrapping_add(imm), 4),
-        Op::Lbu => load(text, pc, regs, words, rd, regs.get(rs1).wrapping_add(imm), 1),
-        Op::Lhu => load(text, pc, regs, words, rd, regs.get(rs1).wrapping_add(imm), 2),
-        Op::Sb => store(text, pc, words, regs.get(rs1).wrapping_add(imm), regs.get(rs2), 1),
-        Op::Sh => store(text, pc, words, regs.get(rs1).wrapping_add(imm), regs.get(rs2), 2),
-        Op::Sw => store(text, pc, words, regs.get(rs1).wrapping_add(imm), regs.get(rs2), 4),
+        Op::Lw => load(
+            text,
+            pc,
+            regs,
+            words,
+            rd,
+            regs.get(rs1).wrapping_add(imm),
+            4,
+        ),
+        Op::Lbu => load(
+            text,
+            pc,
+            regs,
+            words,
+            rd,
+            regs.get(rs1).wrapping_add(imm),
+            1,
+        ),
+        Op::Lhu => load(
+            text,
+            pc,
+            regs,
+            words,
+            rd,
+            regs.get(rs1).wrapping_add(imm),
+            2,
+        ),
+        Op::Sb => store(
+            text,
+            pc,
+            words,
+            regs.get(rs1).wrapping_add(imm),
+            regs.get(rs2),
+            1,
+        ),
+        Op::Sh => store(
+            text,
+            pc,
+            words,
+            regs.get(rs1).wrapping_add(imm),
+            regs.get(rs2),
+            2,
+        ),
+        Op::Sw => store(
+            text,
+            pc,
+            words,
+            regs.get(rs1).wrapping_add(imm),
+            regs.get(rs2),
+            4,
+        ),
         Op::Addi => write(pc, regs, rd, regs.get(rs1).wrapping_add(imm)),
         Op::Slti => write(pc, regs, rd, bit(is_less(regs.get(rs1), imm))),
         Op::Sltiu => write(pc, regs, rd, bit(regs.get(rs1) < imm)),
@@ -59,7 +116,12 @@ pub(crate) fn perform(instr: &Instr, text: &[u32], pc: u32, regs: &mut Registers
         Op::Sltu => write(pc, regs, rd, bit(regs.get(rs1) < regs.get(rs2))),
         Op::Xor => write(pc, regs, rd, regs.get(rs1) ^ regs.get(rs2)),
         Op::Srl => write(pc, regs, rd, regs.get(rs1) >> (regs.get(rs2) % 32)),
-        Op::Sra => write(pc, regs, rd, shift_signed(regs.get(rs1), regs.get(rs2) % 32)),
+        Op::Sra => write(
+            pc,
+            regs,
+            rd,
+            shift_signed(regs.get(rs1), regs.get(rs2) % 32),
+        ),
         Op::Or => write(pc, regs, rd, regs.get(rs1) | regs.get(rs2)),
         Op::And => write(pc, regs, rd, regs.get(rs1) & regs.get(rs2)),
         Op::Fence => advance(pc),
@@ -70,7 +132,7 @@ pub(crate) fn perform(instr: &Instr, text: &[u32], pc: u32, regs: &mut Registers
 }
 
 /// Whether the first word is below the second, as signed numbers.
-#[inline(always)]
+#[inline]
 fn is_less(x: u32, y: u32) -> bool
     ensures { result ≡ is_less x y }
 {
@@ -78,7 +140,7 @@ fn is_less(x: u32, y: u32) -> bool
 }
 
 /// 1 where a test holds, else 0.
-#[inline(always)]
+#[inline]
 fn bit(test: bool) -> u32
     ensures { result ≡ bit test }
 {
@@ -86,7 +148,7 @@ fn bit(test: bool) -> u32
 }
 
 /// Goes to the next instruction.
-#[inline(always)]
+#[inline]
 fn advance(pc: u32) -> Executed
     ensures { result ≡ Went ((pc + 4) % 2 ^ 32) false }
 {
@@ -97,7 +159,7 @@ fn advance(pc: u32) -> Executed
 }
 
 /// Writes a register and goes to the next instruction.
-#[inline(always)]
+#[inline]
 fn write(pc: u32, regs: &mut Registers, rd: u8, value: u32) -> Executed
     requires { IsRegister rd }
     ensures goes { result ≡ Went ((pc + 4) % 2 ^ 32) false }
@@ -107,7 +169,7 @@ fn write(pc: u32, regs: &mut Registers, rd: u8, value: u32) -> Executed
     advance(pc)
 }
 
-#[inline(always)]
+#[inline]
 fn jump(pc: u32, regs: &mut Registers, rd: u8, target: u32) -> Executed
     requires { IsRegister rd }
     ensures { (words : List ℕ) → Does (jumped (body_at pc regs.old words) rd target) (body_at pc regs.old words) (body_at pc regs.new words) result }
@@ -122,7 +184,7 @@ fn jump(pc: u32, regs: &mut Registers, rd: u8, target: u32) -> Executed
     }
 }
 
-#[inline(always)]
+#[inline]
 fn branch(pc: u32, imm: u32, taken: bool) -> Executed
     ensures { (regs words : List ℕ) → Does (branched (body_at pc regs words) taken imm) (body_at pc regs words) (body_at pc regs words) result }
 {
@@ -140,7 +202,7 @@ fn branch(pc: u32, imm: u32, taken: bool) -> Executed
 }
 
 /// The number that 1, 2 or 4 bytes make at an address of the text or the data.
-#[inline(always)]
+#[inline]
 fn fetch(text: &[u32], words: &Items<u32>, address: u32, size: u32) -> Result<u32, Cause>
     requires { IsSize size }
     ensures value { result ≡ fetched text.now (body_at 0 [] words.now) address size }
@@ -159,8 +221,16 @@ fn fetch(text: &[u32], words: &Items<u32>, address: u32, size: u32) -> Result<u3
     }
 }
 
-#[inline(always)]
-fn load(text: &[u32], pc: u32, regs: &mut Registers, words: &Items<u32>, rd: u8, address: u32, size: u32) -> Executed
+#[inline]
+fn load(
+    text: &[u32],
+    pc: u32,
+    regs: &mut Registers,
+    words: &Items<u32>,
+    rd: u8,
+    address: u32,
+    size: u32,
+) -> Executed
     requires size { IsSize size }
     requires register { IsRegister rd }
     ensures { Does (loaded text.now (body_at pc regs.old words.now) rd address size (λ value. value)) (body_at pc regs.old words.now) (body_at pc regs.new words.now) result }
@@ -171,8 +241,15 @@ fn load(text: &[u32], pc: u32, regs: &mut Registers, words: &Items<u32>, rd: u8,
     }
 }
 
-#[inline(always)]
-fn load_byte_signed(text: &[u32], pc: u32, regs: &mut Registers, words: &Items<u32>, rd: u8, address: u32) -> Executed
+#[inline]
+fn load_byte_signed(
+    text: &[u32],
+    pc: u32,
+    regs: &mut Registers,
+    words: &Items<u32>,
+    rd: u8,
+    address: u32,
+) -> Executed
     requires { IsRegister rd }
     ensures { Does (loaded text.now (body_at pc regs.old words.now) rd address 1 (sign_extend 8)) (body_at pc regs.old words.now) (body_at pc regs.new words.now) result }
 {
@@ -183,8 +260,15 @@ fn load_byte_signed(text: &[u32], pc: u32, regs: &mut Registers, words: &Items<u
     }
 }
 
-#[inline(always)]
-fn load_half_signed(text: &[u32], pc: u32, regs: &mut Registers, words: &Items<u32>, rd: u8, address: u32) -> Executed
+#[inline]
+fn load_half_signed(
+    text: &[u32],
+    pc: u32,
+    regs: &mut Registers,
+    words: &Items<u32>,
+    rd: u8,
+    address: u32,
+) -> Executed
     requires { IsRegister rd }
     ensures { Does (loaded text.now (body_at pc regs.old words.now) rd address 2 (sign_extend 16)) (body_at pc regs.old words.now) (body_at pc regs.new words.now) result }
 {
@@ -195,8 +279,15 @@ fn load_half_signed(text: &[u32], pc: u32, regs: &mut Registers, words: &Items<u
     }
 }
 
-#[inline(always)]
-fn store(text: &[u32], pc: u32, words: &mut Items<u32>, address: u32, value: u32, size: u32) -> Executed
+#[inline]
+fn store(
+    text: &[u32],
+    pc: u32,
+    words: &mut Items<u32>,
+    address: u32,
+    value: u32,
+    size: u32,
+) -> Executed
     requires { IsSize size }
     ensures { (regs : List ℕ) → Does (stored text.now (body_at pc regs words.old) address size value) (body_at pc regs words.old) (body_at pc regs words.new) result }
 {
@@ -215,7 +306,7 @@ fn store(text: &[u32], pc: u32, words: &mut Items<u32>, address: u32, value: u32
 }
 
 /// The number without its bit 0.
-#[inline(always)]
+#[inline]
 fn without_bit_0(number: u32) -> u32
     ensures { result ≡ without_bit_0 number }
 {
@@ -223,7 +314,7 @@ fn without_bit_0(number: u32) -> u32
 }
 
 /// The word shifted to the right, with its sign from the left.
-#[inline(always)]
+#[inline]
 fn shift_signed(word: u32, places: u32) -> u32
     requires { places < 32 }
     ensures { result ≡ shifted_signed word places }
@@ -232,7 +323,7 @@ fn shift_signed(word: u32, places: u32) -> u32
 }
 
 /// The service that register a7 asks for.
-#[inline(always)]
+#[inline]
 fn service(regs: &Registers) -> u8
     ensures { result ≡ service_of (body_at 0 regs.now []) }
 {

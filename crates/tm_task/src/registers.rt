@@ -44,7 +44,7 @@ impl Registers {
     }
 
     /// The value of a register.
-    #[inline(always)]
+    #[inline]
     pub(crate) fn get(&self, number: u8) -> u32
         requires { IsRegister number }
         ensures { result ≡ register self.now number }
@@ -53,7 +53,7 @@ impl Registers {
     }
 
     /// Puts a value into a register; x0 loses it.
-    #[inline(always)]
+    #[inline]
     pub(crate) fn set(&mut self, number: u8, value: u32)
         requires { IsRegister number }
         ensures { self.new ≡ with_register self.old number value }

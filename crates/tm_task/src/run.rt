@@ -25,7 +25,13 @@ enum Turned {
 /// changes the count, so that it is looked at only there.
 #[inline(always)]
 #[tactic(auto, using(crate::proofs::Following::goes_on))]
-fn turn(code: &Code, pc: &mut u32, count: &mut u32, regs: &mut Registers, words: &mut Items<u32>) -> Turned
+fn turn(
+    code: &Code,
+    pc: &mut u32,
+    count: &mut u32,
+    regs: &mut Registers,
+    words: &mut Items<u32>,
+) -> Turned
     requires few { length code.now ≤ 16384 }
     requires aligned { pc.old % 4 ≡ 0 }
     requires small { pc.old < 2 ^ 32 }
@@ -58,7 +64,14 @@ fn turn(code: &Code, pc: &mut u32, count: &mut u32, regs: &mut Registers, words:
 
 /// Executes up to `most` instructions from a program counter on, and tells how many.
 #[inline(always)]
-pub(crate) fn run(code: &Code, pc: &mut u32, count: &mut u32, regs: &mut Registers, words: &mut Items<u32>, most: u32) -> u32
+pub(crate) fn run(
+    code: &Code,
+    pc: &mut u32,
+    count: &mut u32,
+    regs: &mut Registers,
+    words: &mut Items<u32>,
+    most: u32,
+) -> u32
     requires few { length code.now ≤ 16384 }
     requires aligned { pc.old % 4 ≡ 0 }
     requires small { pc.old < 2 ^ 32 }

@@ -63,7 +63,6 @@ impl Task {
 
     /// Executes one instruction of the text, which has 1 to 16,384 words. After a call or a fault
     /// the task is as before. The call takes no memory.
-    #[inline]
     #[tactic(auto, using(crate::proofs::Following::goes_on, crate::proofs::Following::calls_inside))]
     pub fn step(&mut self, code: &Code) -> Stepped
         requires some { 0 < length code.now }
@@ -100,7 +99,6 @@ impl Task {
     /// Executes up to `most` instructions of the text, which has 1 to 16,384 words, and tells how
     /// many: it stops before one that calls or faults, and where the next backward transfer would
     /// begin an epoch, so that [`Task::step`] does those. The call takes no memory.
-    #[inline]
     pub fn advance(&mut self, code: &Code, most: u32) -> u32
         requires some { 0 < length code.now }
         requires few { length code.now ≤ 16384 }
@@ -117,7 +115,14 @@ impl Task {
         }
         let mut regs = Registers::of(&self.body.regs);
         let (mut pc, mut count) = (self.body.pc, self.count);
-        let done = run(code, &mut pc, &mut count, &mut regs, &mut self.body.words, most);
+        let done = run(
+            code,
+            &mut pc,
+            &mut count,
+            &mut regs,
+            &mut self.body.words,
+            most,
+        );
         self.body.pc = pc;
         regs.put_into(&mut self.body.regs);
         self.count = count;
