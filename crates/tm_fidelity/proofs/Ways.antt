@@ -134,12 +134,12 @@ no_epochs : (t : ℕ) → epochs t [] ≡ 0
 unfolding epochs
 no_epochs t = refl
 
-checks_more : (image : ImageView) (t : ℕ) (m : Moment) (h : History) → is_start t m.deed (backs t h) ≡ true →
+pub checks_more : (image : ImageView) (t : ℕ) (m : Moment) (h : History) → is_start t m.deed (backs t h) ≡ true →
     checkpoints image t (m ∷ h) ≡ checkpoints image t h ++ checkpoint_at image t m h ∷ []
 unfolding checkpoints
 checks_more image t m h e = rw e refl
 
-checks_stay : (image : ImageView) (t : ℕ) (m : Moment) (h : History) → is_start t m.deed (backs t h) ≡ false →
+pub checks_stay : (image : ImageView) (t : ℕ) (m : Moment) (h : History) → is_start t m.deed (backs t h) ≡ false →
     checkpoints image t (m ∷ h) ≡ checkpoints image t h
 unfolding checkpoints
 checks_stay image t m h e = rw e refl

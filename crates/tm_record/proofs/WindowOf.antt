@@ -25,7 +25,7 @@ use Rattle.tm_record.proofs.Ending.{mapped_got}
 use Rattle.tm_record.proofs.Moments.{shape_tasks, check_size}
 
 -- a list whose items are those of a function of their places
-list_below : {A : Type 0} (xs : List A) (n : ℕ) (f : ℕ → A) (d : A) → length xs ≡ n → ((t : ℕ) → t < n → get_or xs t d ≡ f t) → xs ≡ below n f
+pub list_below : {A : Type 0} (xs : List A) (n : ℕ) (f : ℕ → A) (d : A) → length xs ≡ n → ((t : ℕ) → t < n → get_or xs t d ≡ f t) → xs ≡ below n f
 list_below xs n f d long each =
     ext_get_or d xs (below n f) (long ∙ sym (length-below n f))
     (λ t there. (let within : t < n = omega (arith, there, long) in

@@ -1,0 +1,5 @@
+pub mod Kernels
+pub mod Bodies
+pub mod Runs
+pub mod Windows
+pub mod Telling

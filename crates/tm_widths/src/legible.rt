@@ -1,0 +1,14 @@
+//! What a dump of a run says.
+
+ghost use Rattle.tm_widths.specs.Legible.{DumpsOfRunsAreRead, DumpsTellRuns};
+
+/// The dump of every run is read, and gives the run's window.
+pub fn dumps_of_runs_are_read()
+    ensures { DumpsOfRunsAreRead }
+{}
+
+/// From each point, the dump of a script's run is accepted exactly where the run can be replayed from
+/// it, and then tells exactly what the run did.
+pub fn dumps_tell_runs()
+    ensures { DumpsTellRuns }
+{}
