@@ -136,7 +136,8 @@ def check_small_file_system(folder, runs):
     """As above, in a file system of 1 MiB, where one can be mounted."""
     small = os.path.join(folder, "small")
     os.mkdir(small)
-    if subprocess.run(["mount", "-t", "tmpfs", "-o", "size=1m", "tmpfs", small], stderr=subprocess.DEVNULL).returncode:
+    mount = ["mount", "-t", "tmpfs", "-o", "size=1m", "tmpfs", small]
+    if not shutil.which("mount") or subprocess.run(mount, stderr=subprocess.DEVNULL).returncode:
         return
     try:
         write(os.path.join(small, "dump"), runs.short.dump)

@@ -25,25 +25,25 @@ pub(crate) fn put_whole<R: Files<File = File> + Alloc>(
     name: &str,
     bytes: &[u8],
 ) -> io::Result<()> {
-    let there = there(rt, name)?;
+    let old = open_old(rt, name)?;
     let path = end_of_links(rt, name)?;
-    let Some(there) = there else {
+    let Some(old) = old else {
         return replace(rt, path.as_str(), None, bytes);
     };
-    let metadata = there.metadata()?;
+    let metadata = old.metadata()?;
     if !metadata.is_file() {
-        return write_and_close(there, bytes);
+        return write_and_close(old, bytes);
     }
     if Path::new(path.as_str()).is_symlink(rt) {
-        there.set_len(0)?;
-        return write_and_close(there, bytes);
+        old.set_len(0)?;
+        return write_and_close(old, bytes);
     }
     replace(rt, path.as_str(), Some(metadata.permissions()), bytes)
 }
 
 /// What stands under the name, open for writing and as it was. What may not be written is an error,
 /// also where the folder would let it be replaced.
-fn there<R: Files<File = File>>(rt: &R, name: &str) -> io::Result<Option<File>> {
+fn open_old<R: Files<File = File>>(rt: &R, name: &str) -> io::Result<Option<File>> {
     match File::options().write(true).open(rt, name) {
         Ok(file) => Ok(Some(file)),
         Err(error) if error.kind() == ErrorKind::NotFound => Ok(None),
