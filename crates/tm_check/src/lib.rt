@@ -8,6 +8,3 @@ mod checks;
 mod slot;
 
 pub use checks::{CheckRef, Checks};
-
-#[cfg(test)]
-mod tests;

@@ -22,6 +22,3 @@ pub use fault::DumpFault;
 pub use laws::{dumps_are_bounded, dumps_are_read, reads_are_dumps, widths_are};
 pub use read::read_dump;
 pub use write::write_dump;
-
-#[cfg(test)]
-mod tests;

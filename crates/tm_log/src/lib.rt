@@ -11,6 +11,3 @@ pub use tm_check::{CheckRef, Checks};
 pub use tm_marker::{Caps, NOBODY, Shape, Tail};
 pub use tm_ring::Ring;
 pub use window::Window;
-
-#[cfg(test)]
-mod tests;

@@ -15,6 +15,3 @@ pub use accepted::points;
 pub use finder::{Lost, accepts, marker_at};
 pub use laws::{accepted_points_are_replayable, markers_stand_in_entries, the_least_task_is_told};
 pub use list::Points;
-
-#[cfg(test)]
-mod tests;

@@ -13,6 +13,3 @@ mod recording;
 
 pub use laws::{recorders_are_consistent, windows_are_of_runs};
 pub use recorder::Recorder;
-
-#[cfg(test)]
-mod tests;

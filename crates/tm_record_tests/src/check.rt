@@ -1,9 +1,9 @@
 //! That checkpoints are kept at the limits, what is kept of a few, and that threads may share them.
 
-use super::{CheckRef, Checks};
 use std::alloc::Global;
 use std::process::Abort;
 use std::test::Fail;
+use tm_check::{CheckRef, Checks};
 use tm_marker::Body;
 
 fn assert_shared<T: Send + Sync>() {}

@@ -5,11 +5,11 @@ ghost use Rattle.std.specs.Prelude.{◌≡◌};
 ghost use Rattle.tm_image.specs.Image.{shape_of};
 
 use super::{ENDED, ENDS, STARTS, at_boot, push_check, push_control, push_entry, set_task};
-use crate::{DumpFault, read_dump, write_dump};
 use sha2::{Digest, Sha256};
 use std::alloc::Global;
 use std::process::Abort;
 use std::test::Fail;
+use tm_dump::{DumpFault, read_dump, write_dump};
 use tm_image::{Image, read_image};
 use tm_log::Window;
 use tm_marker::{DataEntry, Marker};

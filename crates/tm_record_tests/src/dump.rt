@@ -6,10 +6,10 @@ ghost use Rattle.tm_marker.specs.Shape.{IsShape};
 
 mod reading;
 
-use super::write_dump;
 use std::alloc::Global;
 use std::process::Abort;
 use std::test::Fail;
+use tm_dump::write_dump;
 use tm_log::Window;
 use tm_marker::{Body, Caps, DataEntry, Items, Kind, Marker, NOBODY, OutputEntry, Shape, Switch};
 

@@ -3,13 +3,13 @@
 ghost use Rattle.std.specs.Prelude.{◌<◌, ◌≤◌, IfOk};
 ghost use Rattle.tm_marker.specs.Shape.{IsCaps, IsShape};
 
-use super::{Lost, accepts, points};
 use std::alloc::{AllocError, Global};
 use std::process::Abort;
 use std::test::Fail;
 use std::thread::Threads;
 use tm_log::Window;
 use tm_marker::{Body, Caps, DataEntry, Items, Kind, Marker, NOBODY, Shape, Switch};
+use tm_points::{Lost, accepts, points};
 
 /// The shape of so many tasks of one data word.
 fn shape_of(alloc: Global, tasks: usize, caps: Caps) -> Result<Shape, AllocError>

@@ -4,10 +4,10 @@ ghost use Rattle.std.specs.Prelude.{◌≡◌, IfOk};
 ghost use Rattle.tm_marker.specs.Shape.{IsShape};
 ghost use Rattle.tm_log.specs.Window.{IsWindow};
 
-use super::{Caps, NOBODY, Shape, Window};
 use std::alloc::{AllocError, Global};
 use std::process::Abort;
 use std::test::Fail;
+use tm_log::{Caps, NOBODY, Shape, Window};
 use tm_marker::{Body, DataEntry, Items, Kind, Marker, OutputEntry, Switch};
 
 fn assert_shared<T: Send + Sync>() {}

@@ -2,13 +2,13 @@
 
 mod windows;
 
-use super::Recorder;
 use std::alloc::Global;
 use std::process::Abort;
 use std::test::Fail;
 use tm_image::read_image;
 use tm_log::CheckRef;
 use tm_marker::{Kind, Marker, NOBODY, Slice, Switch};
+use tm_record::Recorder;
 
 fn assert_shared<T: Send + Sync>() {}
 

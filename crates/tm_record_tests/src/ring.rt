@@ -1,7 +1,7 @@
 //! That rings are made and work at their limits, and that threads may share them.
 
-use super::Ring;
 use std::test::Fail;
+use tm_ring::Ring;
 
 fn assert_shared<T: Send + Sync>() {}
 
