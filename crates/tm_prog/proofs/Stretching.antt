@@ -8,7 +8,8 @@ use Rattle.tm_system.specs.History.{History}
 use Rattle.tm_system.specs.Run.{running_at, turns}
 use Rattle.tm_system.specs.Telling.{below, start_at, pending}
 use Rattle.tm_system.specs.Machine.{MachineView, IsAt, IsMachine, IsQuiet}
-use Rattle.tm_system.proofs.Quieting.{AddsNothing, quiet_turns}
+use Rattle.tm_system.specs.Quiet.{AddsNothing}
+use Rattle.tm_system.proofs.Quieting.{quiet_turns}
 use Rattle.tm_system.proofs.Lengths.{turns_short}
 use Rattle.tm_prog.specs.Teller.{TellerView, Tells}
 use Rattle.tm_prog.specs.Tracing.{IsTraced, IsYoung}

@@ -20,9 +20,10 @@ use Rattle.tm_system.proofs.Lengths.{played_short, first_moment}
 use Rattle.tm_system.proofs.Following.{scripts_are_sound}
 use Rattle.tm_system.proofs.Texts.{controls_few}
 use Rattle.tm_record.specs.StandsFor.{RecorderView, IsReal}
-use Rattle.tm_record.specs.Recording.{task_in, HaveBodies}
+use Rattle.tm_system.specs.Bodies.{HaveBodies}
+use Rattle.tm_system.specs.Moving.{task_in}
 use Rattle.tm_record.specs.Laws.{TotalsAreBounded, RecordersAreOfTheirImage}
-use Rattle.tm_record.proofs.Bodies.{boot_bodies, played_bodies}
+use Rattle.tm_system.proofs.Bodies.{boot_bodies, played_bodies}
 use Rattle.tm_record.proofs.Counts.{entries_few, outputs_few, checkpoints_few}
 use Rattle.tm_record.proofs.Moments.{shape_tasks}
 

@@ -8,8 +8,8 @@ use Rattle.tm_system.specs.History.{History}
 use Rattle.tm_system.specs.Run.{run}
 use Rattle.tm_system.specs.Parts.{word_counts}
 use Rattle.tm_record.specs.StandsFor.{RecorderView, IsReal}
-use Rattle.tm_record.specs.Recording.{HaveBodies}
-use Rattle.tm_record.proofs.Bodies.{boot_bodies, played_bodies}
+use Rattle.tm_system.specs.Bodies.{HaveBodies}
+use Rattle.tm_system.proofs.Bodies.{boot_bodies, played_bodies}
 
 abbrev count : TaskView → ℕ
 count t = length t.standing.body.words

@@ -22,9 +22,11 @@ use Rattle.tm_system.specs.Run.{now, body_at}
 use Rattle.tm_system.specs.Controls.{controls, entries, outputs, checkpoints}
 use Rattle.tm_system.specs.Machine.{MachineView, IsAt, IsMachine}
 use Rattle.tm_record.specs.Window.{IsTailOf}
-use Rattle.tm_record.specs.Recording.{tail_of, task_in, checkpoint_now, check_noted, IsNoted, IsRecorded}
+use Rattle.tm_system.specs.Moving.{task_in}
+use Rattle.tm_system.specs.Hearing.{StandAt}
+use Rattle.tm_record.specs.Recording.{tail_of, checkpoint_now, check_noted, IsNoted, IsRecorded}
 use Rattle.tm_record.proofs.Moments.{task_is, check_size, shape_tasks}
-use Rattle.tm_record.proofs.Bodies.{boot_bodies}
+use Rattle.tm_system.proofs.Bodies.{boot_bodies}
 
 -- an item of a list, mapped
 got_mapped : {A B : Type 0} (f : A → B) (xs : List A) (i : ℕ) (y : B) → option_map f (slice_get xs i) ≡ Some y → y ≡ get_or (map f xs) i y
@@ -114,20 +116,25 @@ tail_is image machine h at = record {
 }
 
 -- what is noted, with its tail
-pub closed_recorded : (image : ImageView) (machine : MachineView) (w next : WindowView) (h : History) → IsNoted image machine w h →
+pub closed_recorded : (image : ImageView) (machine : MachineView) (w next : WindowView) (h : History) → StandAt IsNoted image machine w h →
     next ≡ record w { tail = tail_of machine } → IsRecorded image machine next h
 closed_recorded image machine w next h n is =
     subst (λ (x : WindowView). IsRecorded image machine x h) (sym is) (record {
       at = n.at;
       window = record {
-        shape = n.shape;
-        lists = record { control = n.lists.control; outputs = n.lists.outputs; logs = n.lists.logs; checks = n.lists.checks };
+        shape = n.stood.shape;
+        lists = record {
+          control = n.stood.lists.control;
+          outputs = n.stood.lists.outputs;
+          logs = n.stood.lists.logs;
+          checks = n.stood.lists.checks;
+        };
         tail = tail_is image machine h n.at;
       };
     })
 
-pub recorded_noted : (image : ImageView) (machine : MachineView) (w : WindowView) (h : History) → IsRecorded image machine w h → IsNoted image machine w h
-recorded_noted image machine w h r = record { at = r.at; shape = r.window.shape; lists = r.window.lists }
+pub recorded_noted : (image : ImageView) (machine : MachineView) (w : WindowView) (h : History) → IsRecorded image machine w h → StandAt IsNoted image machine w h
+recorded_noted image machine w h r = record { at = r.at; stood = record { shape = r.window.shape; lists = r.window.lists } }
 
 -- the first tasks have their boot's checkpoint, and the others none
 pub record IsBooting (image : ImageView) (machine : MachineView) (w : WindowView) (count : ℕ) : Type 0 where
@@ -213,15 +220,17 @@ unfolding entries
 no_entries t = refl
 
 pub booting_ends : (image : ImageView) (machine : MachineView) (w : WindowView) (count : ℕ) → IsBooting image machine w count →
-    length image.loads ≤ count → IsNoted image machine w []
+    length image.loads ≤ count → StandAt IsNoted image machine w []
 booting_ends image machine w count b all = record {
   at = b.at;
-  shape = b.shape;
-  lists = record {
-    control = subst (λ cs. Holds w.control cs) (no_controls image) b.control;
-    outputs = subst (λ os. Holds w.outputs os) no_outputs b.outputs;
-    logs = λ t below. subst (λ es. Holds (log_of w t) es) (no_entries t) (b.logs t below);
-    checks = λ t below. b.done t (omega arith);
+  stood = record {
+    shape = b.shape;
+    lists = record {
+      control = subst (λ cs. Holds w.control cs) (no_controls image) b.control;
+      outputs = subst (λ os. Holds w.outputs os) no_outputs b.outputs;
+      logs = λ t below. subst (λ es. Holds (log_of w t) es) (no_entries t) (b.logs t below);
+      checks = λ t below. b.done t (omega arith);
+    };
   };
 }
 

@@ -14,8 +14,8 @@ use Rattle.tm_system.specs.History.{Deed, Arrives, Steps, Answers, Faulted, Whol
 use Rattle.tm_system.specs.Run.{now, running_at, body_at, arrival, arrives, moment_by, next_moment, turned, turns, sliced, played, run}
 use Rattle.tm_system.specs.Follows.{Follows, IsRun, GoesOn}
 use Rattle.tm_system.proofs.Following.{IsGoodRun, boot_good, arrives_good, turned_good, running_in}
-use Rattle.tm_record.specs.Recording.{HaveBodies}
-use Rattle.tm_record.proofs.Bodies.{boot_bodies, arrives_bodies, turned_bodies}
+use Rattle.tm_system.specs.Bodies.{HaveBodies}
+use Rattle.tm_system.proofs.Bodies.{boot_bodies, arrives_bodies, turned_bodies}
 use Rattle.tm_record.proofs.Replies.{replies}
 
 -- a history of an image is a sound run, and every task has a body that it can have

@@ -11,7 +11,7 @@ use Rattle.tm_system.specs.History.{Deed, Arrives, Steps, Answers, Faulted, Mome
 use Rattle.tm_system.specs.Marks.{is_start, backs}
 use Rattle.tm_system.specs.Controls.{controls, is_switch, switch_at, entries, entries_of, outputs, output_of, checkpoints}
 use Rattle.tm_system.specs.Gaining.{checkpoint_at}
-use Rattle.tm_record.proofs.Bodies.{boot_bodies}
+use Rattle.tm_system.proofs.Bodies.{boot_bodies}
 use Rattle.tm_record.proofs.Histories.{TellsSoundly, IsInvariant}
 
 -- the outputs of a run

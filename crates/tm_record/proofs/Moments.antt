@@ -17,20 +17,19 @@ use Rattle.tm_check.specs.Checkpoint.{checkpoint, KeptChecks, kept_checks, Holds
 use Rattle.tm_log.specs.Window.{WindowView, IsWindow, log_of, checks_of}
 use Rattle.tm_system.specs.declared.machine.Told.{Told}
 use Rattle.tm_system.specs.History.{Steps, Whole, Moment, History}
-use Rattle.tm_system.specs.Run.{now, running_at, body_at, arrival, arrives, moment_by, next_moment, turned, turns}
+use Rattle.tm_system.specs.Run.{now, running_at, body_at, moment_by, next_moment}
 use Rattle.tm_system.specs.Marks.{is_start, backs}
 use Rattle.tm_system.specs.Controls.{controls, entries, outputs, checkpoints}
 use Rattle.tm_system.specs.Gaining.{Gains, checkpoint_at, gained_check}
-use Rattle.tm_system.specs.Machine.{MachineView, IsAt, IsMachine, told_of, told_nothing, arrival_told, checkpoint_told}
-use Rattle.tm_system.proofs.Gaining.{turns_gain, arrivals_gain}
-use Rattle.tm_system.proofs.Lengths.{epochs_few, turns_short, arrives_short}
-use Rattle.tm_system.proofs.Stepping.{running_there}
+use Rattle.tm_system.specs.Machine.{MachineView, IsAt, told_of, checkpoint_told}
+use Rattle.tm_system.specs.Moving.{task_in}
+use Rattle.tm_system.specs.Bodies.{HaveBodies}
+use Rattle.tm_system.specs.Hearing.{IsNext, Turns, Comes, IsNews, CanHear}
+use Rattle.tm_system.proofs.Hearing.{news_gain}
 use Rattle.tm_system.proofs.Texts.{controls_few}
 use Rattle.tm_record.specs.Window.{HoldsLists}
-use Rattle.tm_record.specs.Recording.{task_in, checkpoint_now, noted, entry_noted, check_noted, output_noted, switch_noted, HasRoom, Concerns, IsNoted, HaveBodies, IsYoung}
+use Rattle.tm_record.specs.Recording.{checkpoint_now, noted, entry_noted, check_noted, output_noted, switch_noted, HasRoom, Concerns, IsNoted}
 use Rattle.tm_record.proofs.Lists.{Keeps, keeps_entry, keeps_check, keeps_output, keeps_switch}
-use Rattle.tm_record.proofs.Bodies.{turned_bodies, turns_bodies, arrives_bodies}
-use Rattle.tm_system.proofs.Playing.{turned_on}
 use Rattle.tm_record.proofs.Counts.{entries_few, outputs_few, checkpoints_few}
 
 -- a window's shape has as many tasks as the image, and so have its lists
@@ -138,10 +137,6 @@ has_room image machine w g h i s l at b few = record {
       ap (λ (b : Body). length b.words) (task_is image machine h t at there) ∙ (b.each t there).words ∙ sym (check_size image w t i s there);
 }
 
-if_some_any : {A : Type 0} (o : Option A) (P : Type 0) → P → IfSome o (λ x. P)
-if_some_any None P p = tt
-if_some_any (Some x) P p = p
-
 picked_concerns : (b : Bool) (r n : ℕ) → r < n → IfSome (if b then Some r else None) (λ o. o < n)
 picked_concerns true r n below = below
 picked_concerns false r n below = tt
@@ -154,99 +149,37 @@ checkpoint_concerns entry w r b (Calls service) h n below =
     picked_concerns (is_start r (moment_by entry w r b (Calls service)).deed (backs r h)) r n below
 checkpoint_concerns entry w r b (Faults cause) h n below = tt
 
--- what an instruction tells concerns the task that runs
-pub turn_concerns : (image : ImageView) (h : History) (r n : ℕ) (told : Told) → r ≡ running_at image h → r < n →
-    told ≡ told_of image (next_moment image h) h → Concerns n r told
-turn_concerns image h r n told runs below is =
-    subst (λ t. Concerns n r t) (sym is) (record {
-      entry = if_some_any (told_of image (next_moment image h) h).entry (r < n) below;
-      checkpoint = checkpoint_concerns (entry_of image (running_at image h)) (now image h) (running_at image h) (body_at image h (running_at image h))
-          (exec (text_of image (running_at image h)) (body_at image h (running_at image h))) h n (rw (sym runs) below);
-    })
+if_some_any : {A : Type 0} (o : Option A) (P : Type 0) → P → IfSome o (λ x. P)
+if_some_any None P p = tt
+if_some_any (Some x) P p = p
 
--- what an arrival tells concerns no task
-pub arrival_concerns : (image : ImageView) (mask : ℕ) (ports : List ℕ) (h : History) (r n : ℕ) (told : Told) →
-    told ≡ arrival_told image mask ports h → Concerns n r told
-arrival_concerns image mask ports h r n told is =
-    subst (λ t. Concerns n r t) (sym is) (elim (cases_Bool ((now image h).kernel.ended == 0)) [
-      | inl e ↦ rw e (record { entry = tt; checkpoint = tt })
-      | inr e ↦ rw e (record { entry = tt; checkpoint = tt })
-    ])
+-- what an instruction tells concerns the task that runs, and what an arrival tells concerns no task
+told_concerns : (image : ImageView) (h : History) (m : Moment) (n : ℕ) → IsNext image h m → (running_at image h ≢ nobody → running_at image h < n) →
+    Concerns n (running_at image h) (told_of image m h)
+told_concerns image h m n (Turns somebody) there = record {
+  entry = if_some_any (told_of image (next_moment image h) h).entry (running_at image h < n) (there somebody);
+  checkpoint = checkpoint_concerns (entry_of image (running_at image h)) (now image h) (running_at image h) (body_at image h (running_at image h))
+      (exec (text_of image (running_at image h)) (body_at image h (running_at image h))) h n (there somebody);
+}
+told_concerns image h m n (Comes mask ports) there = record { entry = tt; checkpoint = tt }
 
--- an instruction, noted
-pub turned_noted : (image : ImageView) (before after : MachineView) (w next : WindowView) (h : History) (r : ℕ) (told : Told) →
-    IsWindow w → IsNoted image before w h → before.kernel.running ≢ nobody → r ≡ before.kernel.running →
-    IsAt image after (turned image h) → told ≡ told_of image (next_moment image h) h → next ≡ noted after r told w →
-    IsNoted image after next (turned image h)
-turned_noted image before after w next h r told i n somebody runs at is write =
-    let running : running_at image h ≡ r = sym (ap (λ k. k.running) n.at.kernel) ∙ sym runs in
-    let on : turned image h ≡ next_moment image h ∷ h = turned_on image h (λ q. somebody (ap (λ k. k.running) n.at.kernel ∙ q)) in
-    let there : IsAt image after (next_moment image h ∷ h) = subst (IsAt image after) on at in
-    let gains : Gains image (next_moment image h) h told r =
-    subst (λ (k : ℕ). Gains image (next_moment image h) h told k) running
-    (subst (λ (t : Told). Gains image (next_moment image h) h t (running_at image h)) (sym is) (turns_gain image h)) in
-    record {
-      at = at;
-      shape = subst (λ (x : WindowView). x.shape ≡ shape_of image) (sym write) (subst (λ s. s ≡ shape_of image) (sym (noted_shape after w r told)) n.shape);
-      lists = subst (λ (x : WindowView). HoldsLists image x (turned image h)) (sym write)
-          (subst (λ (x : History). HoldsLists image (noted after r told w) x) (sym on)
-          (noted_lists image after w (next_moment image h) h r told i n.shape n.lists there gains));
-    }
+pub news_concerns : (image : ImageView) (h : History) (m : Moment) (machine : MachineView) (task : ℕ) (told : Told) → IsNews image h m machine task told →
+    Concerns (length machine.tasks) task told
+news_concerns image h m machine task told news =
+    subst (λ (k : ℕ). Concerns (length machine.tasks) k told) (sym news.turn)
+    (subst (λ (t : Told). Concerns (length machine.tasks) (running_at image h) t) (sym news.tells)
+    (told_concerns image h m (length machine.tasks) news.next (λ somebody.
+    elim news.whose [ inl e ↦ absurd (somebody (sym news.turn ∙ e)) | inr below ↦ rw (sym news.turn) (rw news.at.tasks below) ])))
 
--- an arrival, noted
-pub arrives_noted : (image : ImageView) (before after : MachineView) (w next : WindowView) (mask : ℕ) (ports : List ℕ) (h : History) (r : ℕ) (told : Told) →
-    IsWindow w → IsNoted image before w h → IsAt image after (arrives image mask ports h) → told ≡ arrival_told image mask ports h →
-    next ≡ noted after r told w → IsNoted image after next (arrives image mask ports h)
-arrives_noted image before after w next mask ports h r told i n at is write =
-    let m : Moment = arrival (now image h) mask ports in
-    record {
-      at = at;
-      shape = subst (λ (x : WindowView). x.shape ≡ shape_of image) (sym write) (subst (λ s. s ≡ shape_of image) (sym (noted_shape after w r told)) n.shape);
-      lists = subst (λ (x : WindowView). HoldsLists image x (arrives image mask ports h)) (sym write)
-          (subst (λ (t : Told). HoldsLists image (noted after r t w) (arrives image mask ports h)) (sym is) (go ((now image h).kernel.ended == 0) at));
-    }
-  where
-    go : (b : Bool) → IsAt image after (if b then arrival (now image h) mask ports ∷ h else h) →
-        HoldsLists image (noted after r (if b then told_of image (arrival (now image h) mask ports) h else told_nothing image h) w)
-        (if b then arrival (now image h) mask ports ∷ h else h)
-    go true at' = noted_lists image after w (arrival (now image h) mask ports) h r (told_of image (arrival (now image h) mask ports) h) i n.shape n.lists at'
-        (arrivals_gain image h mask ports r)
-    go false at' = n.lists
-
--- the epochs have room
-pub epoch_few : (image : ImageView) (machine : MachineView) (w : WindowView) → IsYoung image machine w 0 → IsMachine machine →
-    machine.kernel.running ≢ nobody → IfSome (slice_get machine.tasks machine.kernel.running) (λ task. task.standing.epoch < 2 ^ 53)
-epoch_few image machine w y sound somebody =
-    let there : machine.kernel.running < length image.loads = rw (sym y.noted.at.tasks) (running_there machine machine.kernel.running sound somebody refl) in
-    rw (y.noted.at.each machine.kernel.running there) (omega (arith, epochs_few machine.kernel.running y.history, y.few))
-
--- there is room for what an instruction tells, and for what an arrival does
-pub turn_room : (image : ImageView) (before after : MachineView) (w : WindowView) → IsImage image → IsWindow w → (y : IsYoung image before w 0) →
-    IsAt image after (turned image y.history) → HasRoom after w
-turn_room image before after w i window y at =
-    has_room image after w y.history (turned image y.history) window y.noted.shape y.noted.lists at (turned_bodies image y.history i y.bodies) (omega (arith, y.few))
-
-pub arrival_room : (image : ImageView) (before after : MachineView) (w : WindowView) (mask : ℕ) (ports : List ℕ) → IsWindow w → (y : IsYoung image before w 0) →
-    IsAt image after (arrives image mask ports y.history) → HasRoom after w
-arrival_room image before after w mask ports window y at =
-    has_room image after w y.history (arrives image mask ports y.history) window y.noted.shape y.noted.lists at (arrives_bodies image mask ports y.history y.bodies) (omega (arith, y.few))
-
--- in the midst of instructions there is room for those that are left
-pub turns_young : (image : ImageView) (h : History) (i n left : ℕ) (machine : MachineView) (w : WindowView) → IsImage image → HaveBodies image h →
-    length h + n + 2 < 2 ^ 53 → i + left ≤ n → IsNoted image machine w (turns image i h) → IsYoung image machine w left
-turns_young image h i n left machine w image_is b few within noted = record {
-  history = turns image i h;
-  noted = noted;
-  bodies = turns_bodies image i h image_is b;
-  few = omega (arith, turns_short image i h);
+-- what is told of a moment, noted
+pub news_noted : (image : ImageView) (h : History) (m : Moment) (machine : MachineView) (w : WindowView) (task : ℕ) (told : Told) → IsWindow w →
+    IsNews image h m machine task told → IsNoted image h w → IsNoted image (m ∷ h) (noted machine task told w)
+news_noted image h m machine w task told i news n = record {
+  shape = noted_shape machine w task told ∙ n.shape;
+  lists = noted_lists image machine w m h task told i n.shape n.lists news.at (news_gain image h m machine task told news);
 }
 
--- after the arrival of a slice there is room for its instructions
-pub arrived_young : (image : ImageView) (before after : MachineView) (w next : WindowView) (mask : ℕ) (ports : List ℕ) (n : ℕ) →
-    (y : IsYoung image before w 1048577) → n ≤ 1048576 → IsNoted image after next (arrives image mask ports y.history) → IsYoung image after next n
-arrived_young image before after w next mask ports n y short noted = record {
-  history = arrives image mask ports y.history;
-  noted = noted;
-  bodies = arrives_bodies image mask ports y.history y.bodies;
-  few = omega (arith, y.few, arrives_short image mask ports y.history);
-}
+-- there is room for what is told
+pub news_room : (machine : MachineView) (task : ℕ) (told : Told) (w : WindowView) → IsWindow w → CanHear IsNoted machine task told w → HasRoom machine w
+news_room machine task told w i c =
+    has_room c.image machine w c.history (c.moment ∷ c.history) i c.stood.shape c.stood.lists c.news.at c.bodies c.few

@@ -10,8 +10,9 @@ use Rattle.tm_system.specs.Run.{sliced, run}
 use Rattle.tm_system.specs.Machine.{MachineView}
 use Rattle.tm_system.proofs.Lengths.{played_short}
 use Rattle.tm_record.specs.StandsFor.{RecorderView, StandsFor, IsReal}
-use Rattle.tm_record.specs.Recording.{IsYoung, IsRecorded}
-use Rattle.tm_record.proofs.Bodies.{boot_bodies, played_bodies}
+use Rattle.tm_system.specs.Hearing.{AreYoung}
+use Rattle.tm_record.specs.Recording.{IsNoted, IsRecorded}
+use Rattle.tm_system.proofs.Bodies.{boot_bodies, played_bodies}
 use Rattle.tm_system.proofs.Playing.{played_more}
 
 -- what is recorded at boot stands for no slice
@@ -29,13 +30,16 @@ real_at_boot image machine w r = record {
 }
 
 -- a recorder that stands for a script has room for one more slice
-pub real_young : (r : RecorderView) → IsImage r.image → IsReal r → r.slices < 2 ^ 32 - 1 → IsYoung r.image r.machine r.window 1048577
+pub real_young : (r : RecorderView) → IsImage r.image → IsReal r → r.slices < 2 ^ 32 - 1 → AreYoung IsNoted r.image r.machine r.window 1048577
 real_young r i real few =
     let short : All (λ (s : Slice). s.length ≤ 1048576) real.script = λ k d below. (real.valid k d below).short in
     let so_far : length (run r.image real.script) ≤ 0 + 1048577 * length real.script = played_short r.image real.script [] short in
     record {
       history = run r.image real.script;
-      noted = record { at = real.stands.machine; shape = real.stands.window.shape; lists = real.stands.window.lists };
+      standing = record {
+        at = real.stands.machine;
+        stood = record { shape = real.stands.window.shape; lists = real.stands.window.lists };
+      };
       bodies = played_bodies r.image real.script [] i (boot_bodies r.image i);
       few = omega (arith, so_far, real.stands.slices, few);
     }

@@ -8,7 +8,7 @@ use Rattle.tm_check.specs.Checkpoint.{IsCheckKept}
 use Rattle.tm_log.specs.Window.{IsWindow, log_of, checks_of}
 use Rattle.tm_log.specs.WellFormed.{IsWellFormed}
 use Rattle.tm_record.specs.StandsFor.{RecorderView, IsReal}
-use Rattle.tm_record.specs.Recording.{task_in}
+use Rattle.tm_system.specs.Moving.{task_in}
 
 -- a slice makes at most 1,048,577 moments: its arrival and its instructions
 abbrev pub most_moments : ℕ

@@ -1,24 +1,19 @@
 -- When a machine and a window stand where a run does, in the midst of a slice.
-use Rattle.std.specs.Prelude.{◌≡◌, ℕ, ◌+◌, ◌%◌, ◌<◌, ◌^◌, [], length, map, slice_get, Option, Some, None, IfSome, unwrap_or}
-use Rattle.tm_marker.specs.declared.body.Body.{Body}
+use Rattle.std.specs.Prelude.{◌≡◌, ℕ, ◌<◌, ◌^◌, length, map, Option, Some, None, IfSome}
 use Rattle.tm_marker.specs.declared.entries.DataEntry.{DataEntry}
 use Rattle.tm_marker.specs.declared.entries.OutputEntry.{OutputEntry}
 use Rattle.tm_marker.specs.declared.entries.Switch.{Switch}
 use Rattle.tm_marker.specs.declared.tail.Tail.{Tail}
-use Rattle.tm_task.specs.Standing.{TaskView, boot_body, task_view, marker_of}
+use Rattle.tm_task.specs.Standing.{marker_of}
 use Rattle.tm_kernel.specs.State.{state_number}
-use Rattle.tm_image.specs.Image.{Load, ImageView, load_of, shape_of}
+use Rattle.tm_image.specs.Image.{ImageView, shape_of}
 use Rattle.tm_check.specs.Checkpoint.{Checkpoint, checkpoint}
 use Rattle.tm_log.specs.Window.{WindowView, log_of, checks_of, with_control, with_output, with_entry, with_check}
 use Rattle.tm_system.specs.History.{History}
-use Rattle.tm_system.specs.Run.{now, body_at}
 use Rattle.tm_system.specs.Machine.{MachineView, IsAt}
+pub use Rattle.tm_system.specs.Moving.{task_in}
 use Rattle.tm_system.specs.declared.machine.Told.{Told}
 use Rattle.tm_record.specs.Window.{HoldsLists, IsWindowOf}
-
--- the task of a number, where there is one
-abbrev pub task_in : MachineView → ℕ → TaskView
-task_in machine task = unwrap_or (slice_get machine.tasks task) (task_view 0 (boot_body 0 []) 0 0)
 
 -- the window after a data entry of the task, where there is one
 abbrev pub entry_noted : ℕ → Option DataEntry → WindowView → WindowView
@@ -76,9 +71,8 @@ pub record Concerns (tasks task : ℕ) (told : Told) : Type 0 where
   pub entry : IfSome told.entry (λ entry. task < tasks)
   pub checkpoint : IfSome told.checkpoint (λ other. other < tasks)
 
--- the machine stands where the history does, and the window's lists hold those of the history
-pub record IsNoted (image : ImageView) (machine : MachineView) (w : WindowView) (h : History) : Type 0 where
-  pub at : IsAt image machine h
+-- the window's lists hold those of the history
+pub record IsNoted (image : ImageView) (h : History) (w : WindowView) : Type 0 where
   pub shape : w.shape ≡ shape_of image
   pub lists : HoldsLists image w h
 
@@ -86,21 +80,3 @@ pub record IsNoted (image : ImageView) (machine : MachineView) (w : WindowView) 
 pub record IsRecorded (image : ImageView) (machine : MachineView) (w : WindowView) (h : History) : Type 0 where
   pub at : IsAt image machine h
   pub window : IsWindowOf image w h
-
--- a body that a task loaded from there can have
-pub record IsBodyOf (load : Load) (b : Body) : Type 0 where
-  pub aligned : b.pc % 4 ≡ 0
-  pub words : length b.words ≡ length load.words
-
--- every task of the image has such a body
-pub record HaveBodies (image : ImageView) (h : History) : Type 0 where
-  pub number : length (now image h).bodies ≡ length image.loads
-  pub each : (task : ℕ) → task < length image.loads → IsBodyOf (load_of image task) (body_at image h task)
-
--- they stand where some history of the image does that leaves the totals room for n more moments, and
--- one
-pub record IsYoung (image : ImageView) (machine : MachineView) (w : WindowView) (n : ℕ) : Type 0 where
-  pub history : History
-  pub noted : IsNoted image machine w history
-  pub bodies : HaveBodies image history
-  pub few : length history + n + 2 < 2 ^ 53

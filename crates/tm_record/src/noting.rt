@@ -2,11 +2,62 @@
 
 ghost use Rattle.std.specs.Prelude.{◌≡◌, ◌<◌, ◌^◌, length, IfSome};
 ghost use Rattle.tm_log.specs.Window.{log_of, checks_of};
-ghost use Rattle.tm_record.specs.Recording.{task_in, noted, entry_noted, check_noted, output_noted, switch_noted, HasRoom, Concerns};
+ghost use Rattle.tm_system.specs.Moving.{task_in};
+ghost use Rattle.tm_record.specs.Recording.{tail_of, noted, entry_noted, check_noted, output_noted, switch_noted, HasRoom, Concerns};
 
+use crate::closing::close;
+use std::convert::Infallible;
+use std::marker::Model;
 use tm_log::Window;
 use tm_marker::{DataEntry, OutputEntry, Switch};
-use tm_system::{Machine, Told};
+use tm_system::{Listener, Machine, Told};
+
+/// A window that notes what it hears. It never refuses.
+#[derive(Drop)]
+pub(crate) struct Notes {
+    pub(crate) window: Window,
+}
+
+impl Model for Notes {
+    ghost use Rattle.tm_log.specs.Window.{WindowView};
+
+    ghost Value = { WindowView };
+
+    ghost view = { λ n. n.window };
+}
+
+impl Notes {
+    /// Makes the tail that of the machine as it stands.
+    pub(crate) fn close(&mut self, machine: &Machine)
+        requires { length self.old.shape.words ≡ length machine.now.tasks }
+        ensures { self.new ≡ record self.old { tail = tail_of machine.now } }
+    {
+        close(machine, &mut self.window);
+    }
+}
+
+impl Listener for Notes {
+    ghost use Rattle.std.specs.Prelude.{refl};
+    ghost use Rattle.tm_record.specs.Recording.{noted, IsNoted};
+    ghost use Rattle.tm_record.specs.Resting.{quiet_noted};
+
+    type Refusal = Infallible;
+
+    ghost hears = { noted };
+
+    ghost stands = { IsNoted };
+
+    fn hear(&mut self, machine: &Machine, task: u8, told: &Told) -> Result<(), Infallible> {
+        // A window keeps what its type says.
+        let _tasks = self.window.tasks();
+        note(machine, &mut self.window, task, told);
+        Ok(())
+    }
+
+    ghost unheard = { λ machine task w. refl };
+
+    ghost rests = { quiet_noted };
+}
 
 /// Writes what a moment told. `task` is the one whose turn it was. The data entry comes before the
 /// checkpoint of the same moment, which counts it, and the control entry after.

@@ -26,9 +26,9 @@ impl Model for Recorder {
 
     ghost Value = { RecorderView };
 
-    ghost view = { λ r. record { image = r.image; machine = r.recording.machine; window = r.recording.window; slices = r.slices } };
+    ghost view = { λ r. record { image = r.image; machine = r.recording.machine; window = r.recording.notes; slices = r.slices } };
 
-    ghost invariant = { λ r. IsReal (record { image = r.image; machine = r.recording.machine; window = r.recording.window; slices = r.slices }) };
+    ghost invariant = { λ r. IsReal (record { image = r.image; machine = r.recording.machine; window = r.recording.notes; slices = r.slices }) };
 }
 
 impl Recorder {
@@ -86,7 +86,7 @@ impl Recorder {
         ensures window { result.now ≡ self.now.window }
         ensures real { IsReal self.now }
     {
-        &self.recording.window
+        &self.recording.notes.window
     }
 
     /// The image.

@@ -5,7 +5,6 @@ pub mod Calling
 pub mod Stepping
 pub mod Adding
 pub mod Playing
-pub mod Advancing
 pub mod Quieting
 pub mod Booting
 pub mod Outputs
@@ -17,3 +16,7 @@ pub mod Texts
 pub mod Below
 pub mod Gaining
 mod Copied
+pub mod Bodies
+pub mod Moving
+pub mod Doing
+pub mod Hearing

@@ -12,19 +12,9 @@ use Rattle.tm_system.specs.Marks.{is_start, backs}
 use Rattle.tm_system.specs.Controls.{is_switch, switch_at, controls, entries_of, entries, output_of, outputs, checkpoints}
 use Rattle.tm_system.specs.Telling.{printed, made, pending, blocks}
 use Rattle.tm_system.specs.Machine.{entry_told, checkpoint_told, told_of, told_going_on, IsQuiet}
+use Rattle.tm_system.specs.Quiet.{AddsNothing}
 use Rattle.tm_system.proofs.Marking.{apart_starts, arrives_apart, steps_apart, faulted_apart}
 use Rattle.tm_system.proofs.Turning.{turned_runs}
-
--- the second history has every list of the first, and the same task runs
-pub record AddsNothing (image : ImageView) (h g : History) : Type 0 where
-  pub running : running_at image g ≡ running_at image h
-  pub printed : (p task : ℕ) → p ≤ length (controls image h) → printed image p task g ≡ printed image p task h
-  pub pending : (task : ℕ) → pending image task g ≡ pending image task h
-  pub blocks : (p : ℕ) → blocks image p g ≡ blocks image p h
-  pub checkpoints : (task : ℕ) → checkpoints image task g ≡ checkpoints image task h
-  pub entries : (task : ℕ) → entries task g ≡ entries task h
-  pub outputs : outputs g ≡ outputs h
-  pub controls : controls image g ≡ controls image h
 
 -- what is told of a moment that adds nothing: no control entry, no data entry, no output, no epoch start
 record TellsNothing (image : ImageView) (m : Moment) (h : History) : Type 0 where

@@ -37,15 +37,6 @@ pub record Runs (image : ImageView) (h : History) (old : MachineView) (r : ℕ) 
   pub runs : old.kernel.running ≡ r
   pub there : r < length image.loads
 
--- what the machine has running, the run has running
-pub runs_of : (image : ImageView) (h : History) (old : MachineView) (r : ℕ) → IsAt image old h → IsMachine old →
-    IsRunning old.kernel r → Runs image h old r
-runs_of image h old r at sound running = record {
-  at = at;
-  runs = running.runs;
-  there = omega (arith, running.there, sound.kernel.states, sound.tasks, at.tasks);
-}
-
 -- the running task is nobody, or one of the machine's
 pub runner_within : (machine : MachineView) → IsMachine machine → IsTaskOrNobody (length machine.tasks) machine.kernel.running
 runner_within machine sound = elim sound.kernel.running [
@@ -78,7 +69,7 @@ next_is image h r e ran did =
     subst P (sym ran) (ap (λ (x : Exec). moment_by (entry_of image r) (now image h) r (body_at image h r) x) did)
 
 -- two tasks of equal parts
-same_parts : (e e' : ℕ) (s s' : Standing) → e ≡ e' → s ≡ s' →
+pub same_parts : (e e' : ℕ) (s s' : Standing) → e ≡ e' → s ≡ s' →
     (let t : TaskView = record { entry = e; standing = s } in t) ≡ record { entry = e'; standing = s' }
 same_parts e e' s s' p q = cc
 
@@ -123,7 +114,7 @@ goes_at image h old new r before after runs there w rest =
     (ap (λ (x : MachineView). x.tasks) rest) here)
 
 -- whether an instruction that went on starts an epoch shows in the epoch
-went_stays : (s : Standing) (next : Body) (back : Bool) → (went s next back).epoch ≡ s.epoch → (back && is_full s) ≡ false
+pub went_stays : (s : Standing) (next : Body) (back : Bool) → (went s next back).epoch ≡ s.epoch → (back && is_full s) ≡ false
 went_stays s next false e = refl
 went_stays s next true e = elim (cases_Bool (is_full s)) [
   | inl full ↦
@@ -133,7 +124,7 @@ went_stays s next true e = elim (cases_Bool (is_full s)) [
   | inr more ↦ more
 ]
 
-went_starts : (s : Standing) (next : Body) (back : Bool) → (went s next back).epoch ≡ s.epoch + 1 → (back && is_full s) ≡ true
+pub went_starts : (s : Standing) (next : Body) (back : Bool) → (went s next back).epoch ≡ s.epoch + 1 → (back && is_full s) ≡ true
 went_starts s next false e = absurd (omega arith)
 went_starts s next true e = elim (cases_Bool (is_full s)) [
   | inl full ↦ full
@@ -141,55 +132,6 @@ went_starts s next true e = elim (cases_Bool (is_full s)) [
       let here : (went s next true).epoch ≡ s.epoch = rw more refl in
       absurd (omega arith)
 ]
-
--- what is told of an instruction that went on
-goes_told : (image : ImageView) (h : History) (old : MachineView) (r : ℕ) (before after : TaskView) (runs : Runs image h old r)
-    (checkpoint : Option ℕ) → r ≢ nobody → slice_get old.tasks r ≡ Some before → (w : Went (text_of image r) before after) →
-    checkpoint ≡ (if w.back && (backs r h + 1 == EPOCH_LENGTH) then Some r else None) →
-    (let t : Told = record { entry = None; output = None; checkpoint = checkpoint; switch = None; fault = 0; idle = false } in t)
-    ≡ told_of image (next_moment image h) h
-goes_told image h old r before after runs checkpoint somebody there w checked =
-    let m : Moment = moment_by (entry_of image r) (now image h) r (body_at image h r) (Goes after.standing.body w.back) in
-    let ran : running_at image h ≡ r = runs_at image h old r runs in
-    let start : (if is_start r (Steps r w.back) (backs r h) then Some r else None)
-    ≡ (if w.back && (backs r h + 1 == EPOCH_LENGTH) then Some r else None) = rw (eq-eqb r r refl) refl in
-    let quiet : (if is_switch image m h then Some (switch_at image m h) else None) ≡ None =
-    rw (eq-eqb (running_at image h) (running_at image h) refl) refl in
-    let busy : (m.after.kernel.running == nobody) ≡ false =
-    ne_eqb (running_at image h) nobody (λ e. somebody (sym ran ∙ e)) in
-    let P : Moment → Type 0 = λ (x : Moment).
-    (let t : Told = record { entry = None; output = None; checkpoint = checkpoint; switch = None; fault = 0; idle = false } in t)
-    ≡ told_of image x h in
-    subst P (sym (goes_moment image h old r before after runs there w))
-    (told_is image m h None None checkpoint None 0 false refl refl (checked ∙ sym start) (sym quiet) refl (sym busy))
-
-pub ran_told : (image : ImageView) (h : History) (old : MachineView) (r : ℕ) (before after : TaskView) → Runs image h old r →
-    r ≢ nobody → slice_get old.tasks r ≡ Some before → DidRun (text_of image r) before after →
-    (let t : Told = record { entry = None; output = None; checkpoint = None; switch = None; fault = 0; idle = false } in t)
-    ≡ told_of image (next_moment image h) h
-ran_told image h old r before after runs somebody there did =
-    let is : before ≡ task_at image h r = runner_is image h old r before runs there in
-    let w = did.goes in
-    let stays : (w.back && is_full before.standing) ≡ false =
-    went_stays before.standing after.standing.body w.back
-    (sym (ap (λ (s : Standing). s.epoch) w.standing) ∙ did.epoch) in
-    let here : (w.back && (backs r h + 1 == EPOCH_LENGTH)) ≡ false =
-    sym (ap (λ (t : TaskView). w.back && is_full t.standing) is) ∙ stays in
-    goes_told image h old r before after runs None somebody there w (rw here refl)
-
-pub forced_told : (image : ImageView) (h : History) (old : MachineView) (r : ℕ) (before after : TaskView) → Runs image h old r →
-    r ≢ nobody → slice_get old.tasks r ≡ Some before → DidForce (text_of image r) before after →
-    (let t : Told = record { entry = None; output = None; checkpoint = Some r; switch = None; fault = 0; idle = false } in t)
-    ≡ told_of image (next_moment image h) h
-forced_told image h old r before after runs somebody there did =
-    let is : before ≡ task_at image h r = runner_is image h old r before runs there in
-    let w = did.goes in
-    let starts : (w.back && is_full before.standing) ≡ true =
-    went_starts before.standing after.standing.body w.back
-    (sym (ap (λ (s : Standing). s.epoch) w.standing) ∙ did.epoch) in
-    let here : (w.back && (backs r h + 1 == EPOCH_LENGTH)) ≡ true =
-    sym (ap (λ (t : TaskView). w.back && is_full t.standing) is) ∙ starts in
-    goes_told image h old r before after runs (Some r) somebody there w (rw here refl)
 
 -- an answered call: its moment, the machine after it, and what is told
 call_is : (image : ImageView) (h : History) (old : MachineView) (r service : ℕ) (before : TaskView) (a : Answered) → Runs image h old r →
@@ -225,31 +167,6 @@ call_at image h old new r service before a runs did there is_a kernel spec tasks
     (moved image h old new m r next _ runs.at runs.there kernel spec
     (λ t other. answers_apart t r a.entry a.output other) refl tasks here)
 
-pub call_told : (image : ImageView) (h : History) (old : MachineView) (r service : ℕ) (before : TaskView) (a : Answered) → Runs image h old r →
-    exec (text_of image r) (body_at image h r) ≡ Calls service → slice_get old.tasks r ≡ Some before →
-    a ≡ answer old.kernel r service (args_of before.standing.body) →
-    (entry : Option DataEntry) (output : Option OutputEntry) (checkpoint : Option ℕ) (switch : Option Switch) (fault : ℕ) (idle : Bool) →
-    entry ≡ Some a.entry → output ≡ a.output → checkpoint ≡ (if begins_epoch a.entry then Some r else None) →
-    switch ≡ (if is_switch image (next_moment image h) h then Some (switch_at image (next_moment image h) h) else None) →
-    fault ≡ 0 → idle ≡ ((rescheduled a.kernel).running == nobody) →
-    (let t : Told = record { entry = entry; output = output; checkpoint = checkpoint; switch = switch; fault = fault; idle = idle } in t)
-    ≡ told_of image (next_moment image h) h
-call_told image h old r service before a runs did there is_a entry output checkpoint switch fault idle e o c s f i =
-    let m : Moment = call_moment (entry_of image r) (now image h) r (body_at image h r) a in
-    let is : next_moment image h ≡ m = call_is image h old r service before a runs did there is_a in
-    let start : (if is_start r (Answers r a.entry a.output) (backs r h) then Some r else None)
-    ≡ (if begins_epoch a.entry then Some r else None) =
-    elim (cases_Bool (begins_epoch a.entry)) [
-      | inl starts ↦ rw (eq-eqb r r refl) (rw starts refl)
-      | inr stays ↦ rw (eq-eqb r r refl) (rw stays refl)
-    ] in
-    let P : Moment → Type 0 = λ (x : Moment).
-    (let t : Told = record { entry = entry; output = output; checkpoint = checkpoint; switch = switch; fault = fault; idle = idle } in t)
-    ≡ told_of image x h in
-    let Q : Moment → Type 0 = λ (x : Moment). switch ≡ (if is_switch image x h then Some (switch_at image x h) else None) in
-    subst P (sym is)
-    (told_is image m h entry output checkpoint switch fault idle e o (c ∙ sym start) (subst Q is s) f i)
-
 -- a fault: its moment, the machine after it, and what is told
 pub fault_at : (image : ImageView) (h : History) (old new : MachineView) (r : ℕ) (cause : Cause) → Runs image h old r →
     exec (text_of image r) (body_at image h r) ≡ Faults cause →
@@ -262,58 +179,6 @@ fault_at image h old new r cause runs did kernel tasks =
     (kernel ∙ ap (λ (k : KernelState). stopped k true) runs.at.kernel)
     (ap (λ (k : KernelState). k.spec) kernel)
     (λ t. faulted_apart t r cause) refl tasks)
-
-pub fault_told : (image : ImageView) (h : History) (old : MachineView) (r : ℕ) (cause : Cause) → Runs image h old r →
-    exec (text_of image r) (body_at image h r) ≡ Faults cause →
-    (entry : Option DataEntry) (output : Option OutputEntry) (checkpoint : Option ℕ) (switch : Option Switch) (fault : ℕ) (idle : Bool) →
-    entry ≡ None → output ≡ None → checkpoint ≡ None →
-    switch ≡ (if is_switch image (next_moment image h) h then Some (switch_at image (next_moment image h) h) else None) →
-    fault ≡ cause_of (Faulted r cause) → idle ≡ true →
-    (let t : Told = record { entry = entry; output = output; checkpoint = checkpoint; switch = switch; fault = fault; idle = idle } in t)
-    ≡ told_of image (next_moment image h) h
-fault_told image h old r cause runs did entry output checkpoint switch fault idle e o c s f i =
-    let m : Moment = moment_by (entry_of image r) (now image h) r (body_at image h r) (Faults cause) in
-    let is : next_moment image h ≡ m = next_is image h r (Faults cause) (runs_at image h old r runs) did in
-    let P : Moment → Type 0 = λ (x : Moment).
-    (let t : Told = record { entry = entry; output = output; checkpoint = checkpoint; switch = switch; fault = fault; idle = idle } in t)
-    ≡ told_of image x h in
-    let Q : Moment → Type 0 = λ (x : Moment). switch ≡ (if is_switch image x h then Some (switch_at image x h) else None) in
-    subst P (sym is) (told_is image m h entry output checkpoint switch fault idle e o c (subst Q is s) f i)
-
--- the reason why the task of a call or a fault leaves, as the moment has it
-pub call_leaves : (image : ImageView) (h : History) (old : MachineView) (r service : ℕ) (before : TaskView) (a : Answered) → Runs image h old r →
-    exec (text_of image r) (body_at image h r) ≡ Calls service → slice_get old.tasks r ≡ Some before →
-    a ≡ answer old.kernel r service (args_of before.standing.body) →
-    (next_moment image h).leaves ≡ left_by a.need
-call_leaves image h old r service before a runs did there is_a =
-    ap (λ (m : Moment). m.leaves) (call_is image h old r service before a runs did there is_a)
-
-pub fault_leaves : (image : ImageView) (h : History) (old : MachineView) (r : ℕ) (cause : Cause) → Runs image h old r →
-    exec (text_of image r) (body_at image h r) ≡ Faults cause → (next_moment image h).leaves ≡ Some Fault
-fault_leaves image h old r cause runs did =
-    ap (λ (m : Moment). m.leaves) (next_is image h r (Faults cause) (runs_at image h old r runs) did)
-
--- the control entries that the machine tells of a call and of a fault
-pub call_switch : (image : ImageView) (h : History) (old new : MachineView) (r service : ℕ) (before : TaskView) (a : Answered) → Runs image h old r →
-    exec (text_of image r) (body_at image h r) ≡ Calls service → slice_get old.tasks r ≡ Some before →
-    a ≡ answer old.kernel r service (args_of before.standing.body) →
-    IsMachine new → IsAt image new (next_moment image h ∷ h) → (leaves : Option Kind) → leaves ≡ left_by a.need →
-    switched new r leaves
-    ≡ (if is_switch image (next_moment image h) h then Some (switch_at image (next_moment image h) h) else None)
-call_switch image h old new r service before a runs did there is_a sound at leaves left =
-    switched-at image new (next_moment image h) h r leaves at (sym (runs_at image h old r runs))
-    (left ∙ sym (call_leaves image h old r service before a runs did there is_a)) (inr runs.there)
-    (subst (λ (n : ℕ). IsTaskOrNobody n new.kernel.running) at.tasks (runner_within new sound))
-
-pub fault_switch : (image : ImageView) (h : History) (old new : MachineView) (r : ℕ) (cause : Cause) → Runs image h old r →
-    exec (text_of image r) (body_at image h r) ≡ Faults cause →
-    IsMachine new → IsAt image new (next_moment image h ∷ h) →
-    switched new r (Some Fault)
-    ≡ (if is_switch image (next_moment image h) h then Some (switch_at image (next_moment image h) h) else None)
-fault_switch image h old new r cause runs did sound at =
-    switched-at image new (next_moment image h) h r (Some Fault) at (sym (runs_at image h old r runs))
-    (sym (fault_leaves image h old r cause runs did)) (inr runs.there)
-    (subst (λ (n : ℕ). IsTaskOrNobody n new.kernel.running) at.tasks (runner_within new sound))
 
 -- an arrival and a call leave the kernel's specification
 pub arrival_spec : (k : KernelState) (mask : ℕ) (ports : List ℕ) → (rescheduled (arrived k mask ports)).spec ≡ k.spec
@@ -339,26 +204,6 @@ arrival_at image h old new mask ports at kernel spec tasks =
     rested image h old new (arrival (now image h) mask ports) at
     (kernel ∙ ap (λ (k : KernelState). rescheduled (arrived k mask ports)) at.kernel)
     spec (λ t. arrives_apart t mask ports) refl tasks
-
-pub arrival_told_is : (image : ImageView) (h : History) (mask : ℕ) (ports : List ℕ)
-    (entry : Option DataEntry) (output : Option OutputEntry) (checkpoint : Option ℕ) (switch : Option Switch) (fault : ℕ) (idle : Bool) →
-    entry ≡ None → output ≡ None → checkpoint ≡ None →
-    switch ≡ (if is_switch image (arrival (now image h) mask ports) h then Some (switch_at image (arrival (now image h) mask ports) h) else None) →
-    fault ≡ 0 → idle ≡ ((rescheduled (arrived (now image h).kernel mask ports)).running == nobody) →
-    (let t : Told = record { entry = entry; output = output; checkpoint = checkpoint; switch = switch; fault = fault; idle = idle } in t)
-    ≡ told_of image (arrival (now image h) mask ports) h
-arrival_told_is image h mask ports entry output checkpoint switch fault idle e o c s f i =
-    told_is image (arrival (now image h) mask ports) h entry output checkpoint switch fault idle e o c s f i
-
-pub arrival_switch : (image : ImageView) (h : History) (old new : MachineView) (mask : ℕ) (ports : List ℕ) →
-    IsAt image old h → IsMachine old → IsMachine new → IsAt image new (arrival (now image h) mask ports ∷ h) →
-    switched new old.kernel.running None
-    ≡ (if is_switch image (arrival (now image h) mask ports) h then Some (switch_at image (arrival (now image h) mask ports) h) else None)
-arrival_switch image h old new mask ports before old_sound new_sound at =
-    switched-at image new (arrival (now image h) mask ports) h old.kernel.running None at
-    (ap (λ (k : KernelState). k.running) before.kernel) refl
-    (subst (λ (n : ℕ). IsTaskOrNobody n old.kernel.running) before.tasks (runner_within old old_sound))
-    (subst (λ (n : ℕ). IsTaskOrNobody n new.kernel.running) at.tasks (runner_within new new_sound))
 
 -- while the run goes on, an arrival is a moment
 pub arrives_goes : (image : ImageView) (h : History) (mask : ℕ) (ports : List ℕ) → (now image h).kernel.ended ≡ 0 →

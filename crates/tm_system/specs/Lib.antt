@@ -8,6 +8,10 @@ pub mod Accepted
 pub mod Follows
 pub mod Machine
 pub mod Parts
+pub mod Moving
+pub mod Quiet
+pub mod Bodies
+pub mod Hearing
 pub mod Examples
 pub mod Laws
 pub mod Gaining

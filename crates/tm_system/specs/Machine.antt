@@ -40,13 +40,18 @@ entry_told (Steps task back) = None
 entry_told (Answers task entry output) = Some entry
 entry_told (Faulted task cause) = None
 
--- the task whose epoch a deed starts, where it starts one
+-- the task whose epoch a deed starts, where it starts one, by each task's backward transfers since its last
+-- epoch start
+abbrev pub checkpoint_by : (ℕ → ℕ) → Deed → Option ℕ
+checkpoint_by counts (Arrives mask ports) = None
+checkpoint_by counts (Steps task back) = if is_start task (Steps task back) (counts task) then Some task else None
+checkpoint_by counts (Answers task entry output) =
+    if is_start task (Answers task entry output) (counts task) then Some task else None
+checkpoint_by counts (Faulted task cause) = None
+
+-- the task whose epoch a deed starts after a history
 abbrev pub checkpoint_told : Deed → History → Option ℕ
-checkpoint_told (Arrives mask ports) h = None
-checkpoint_told (Steps task back) h = if is_start task (Steps task back) (backs task h) then Some task else None
-checkpoint_told (Answers task entry output) h =
-    if is_start task (Answers task entry output) (backs task h) then Some task else None
-checkpoint_told (Faulted task cause) h = None
+checkpoint_told deed h = checkpoint_by (λ task. backs task h) deed
 
 -- what a moment adds to the lists that a run leaves, and the cause of its fault
 abbrev pub told_of : ImageView → Moment → History → Told

@@ -1,15 +1,16 @@
 //! The machine: every task of an image and the kernel, moment by moment.
 
 ghost use Rattle.std.specs.Prelude.{◌≡◌, ◌≢◌, ℕ, ◌^◌, ◌<◌, ◌≤◌, ◌==◌, [], ◌∷◌, length, slice_get, option_map, IfOk, IfSome};
-ghost use Rattle.tm_task.specs.Exec.{exec, Calls, Faults};
+ghost use Rattle.tm_task.specs.Exec.{Calls, Faults};
 ghost use Rattle.tm_task.specs.RunsOn.{HasStopped};
 ghost use Rattle.tm_task.specs.Standing.{begins_epoch};
 ghost use Rattle.tm_kernel.specs.State.{IsRunning, nobody, state_number};
 ghost use Rattle.tm_image.specs.Image.{ImageView, text_of};
 ghost use Rattle.tm_system.specs.History.{History};
-ghost use Rattle.tm_system.specs.Run.{arrives, turned, turns, next_moment, body_at, left_by};
+ghost use Rattle.tm_system.specs.Run.{arrival, arrives, turned, turns, next_moment, left_by};
 ghost use Rattle.tm_system.specs.Controls.{kind_by};
 ghost use Rattle.tm_system.specs.Machine.{IsAt, IsMachine, IsQuiet, told_of, arrival_told};
+ghost use Rattle.tm_system.specs.Moving.{whole_in, moment_in, next_in, Does, DoesQuietly};
 ghost use Rattle.tm_system.specs.Parts.{AreBooted, CanAnswer, IsTaskOrNobody, StepsTask, RunsTask, RepliesTo, marker_in, switched, word_counts};
 
 use std::alloc::{AllocError, Global};
@@ -77,6 +78,7 @@ impl Machine {
     /// The arrival of a slice: its lines come in and its ports are latched, while the run goes on.
     pub fn arrive(&mut self, mask: u32, ports: [u32; 4]) -> Told
         requires { mask < 65536 }
+        ensures done { self.old.kernel.ended ≡ 0 → Does self.old (arrival (whole_in self.old) mask ports) result self.new }
         ensures at { (image : ImageView) (h : History) → IsAt image self.old h →
             IsAt image self.new (arrives image mask ports h) }
         ensures told { (image : ImageView) (h : History) → IsAt image self.old h →
@@ -103,6 +105,7 @@ impl Machine {
         requires runs { self.old.kernel.running ≢ nobody }
         requires image { self.old.kernel.spec ≡ image.now.spec }
         requires epoch { IfSome (slice_get self.old.tasks self.old.kernel.running) (λ task. task.standing.epoch < 2 ^ 53) }
+        ensures done { Does self.old (next_in image.now self.old) result self.new }
         ensures at { (h : History) → IsAt image.now self.old h → IsAt image.now self.new (turned image.now h) }
         ensures told { (h : History) → IsAt image.now self.old h →
             result ≡ told_of image.now (next_moment image.now h) h }
@@ -112,15 +115,7 @@ impl Machine {
         let task = self.kernel.running();
         // An image has a text for each task of its kernel's specification.
         let _tasks = image.tasks();
-        match self.step(task, image.text(task)) {
-            Stepped::Ran => Told::WENT,
-            Stepped::Forced => Told {
-                checkpoint: Some(task),
-                ..Told::WENT
-            },
-            Stepped::Call(service) => self.answer(task, service),
-            Stepped::Fault(cause) => self.fail(task, cause),
-        }
+        self.act(task, image.text(task))
     }
 
     /// Up to `most` instructions of the running task, from the image that the machine was booted
@@ -132,6 +127,7 @@ impl Machine {
         requires image { self.old.kernel.spec ≡ image.now.spec }
         requires epoch { IfSome (slice_get self.old.tasks self.old.kernel.running) (λ task. task.standing.epoch < 2 ^ 53) }
         ensures within { result ≤ most }
+        ensures done { DoesQuietly image.now result self.old self.new }
         ensures at { (h : History) → IsAt image.now self.old h → IsAt image.now self.new (turns image.now result h) }
         ensures quiet { (h : History) → IsAt image.now self.old h → (i : ℕ) → i < result → IsQuiet image.now (turns image.now i h) }
         ensures stopped { result < most → IfSome (slice_get self.new.tasks self.new.kernel.running) (HasStopped (text_of image.now self.new.kernel.running)) }
@@ -197,6 +193,30 @@ impl Machine {
 }
 
 impl Machine {
+    /// One instruction of the running task by its text.
+    #[inline]
+    fn act(&mut self, task: u8, code: &Code) -> Told
+        requires runs { IsRunning self.old.kernel task }
+        requires somebody { task ≢ nobody }
+        requires there { task < length self.old.tasks }
+        requires some { 0 < length code.now }
+        requires few { length code.now ≤ 16384 }
+        requires epoch { IfSome (slice_get self.old.tasks task) (λ t. t.standing.epoch < 2 ^ 53) }
+        ensures done { (image : ImageView) → code.now ≡ text_of image task → Does self.old (next_in image self.old) result self.new }
+        ensures spec { self.new.kernel.spec ≡ self.old.kernel.spec }
+        ensures sound { IsMachine self.new }
+    {
+        match self.step(task, code) {
+            Stepped::Ran => Told::WENT,
+            Stepped::Forced => Told {
+                checkpoint: Some(task),
+                ..Told::WENT
+            },
+            Stepped::Call(service) => self.answer(task, service),
+            Stepped::Fault(cause) => self.fail(task, cause),
+        }
+    }
+
     /// One instruction of a task by its text.
     #[inline]
     fn step(&mut self, task: u8, code: &Code) -> Stepped
@@ -204,7 +224,8 @@ impl Machine {
         requires some { 0 < length code.now }
         requires few { length code.now ≤ 16384 }
         requires epoch { IfSome (slice_get self.old.tasks task) (λ t. t.standing.epoch < 2 ^ 53) }
-        ensures { StepsTask code.now task self.old result self.new }
+        ensures stepped { StepsTask code.now task self.old result self.new }
+        ensures sound { IsMachine self.new }
     {
         self.tasks[usize::from(task)].step(code)
     }
@@ -229,12 +250,7 @@ impl Machine {
     fn answer(&mut self, task: u8, service: u8) -> Told
         requires runs { IsRunning self.old.kernel task }
         requires caller { IfSome (slice_get self.old.tasks task) CanAnswer }
-        ensures at { (image : ImageView) (h : History) → IsAt image self.old h →
-            exec (text_of image task) (body_at image h task) ≡ Calls service →
-            IsAt image self.new (next_moment image h ∷ h) }
-        ensures told { (image : ImageView) (h : History) → IsAt image self.old h →
-            exec (text_of image task) (body_at image h task) ≡ Calls service →
-            result ≡ told_of image (next_moment image h) h }
+        ensures done { Does self.old (moment_in self.old task (Calls service)) result self.new }
         ensures spec { self.new.kernel.spec ≡ self.old.kernel.spec }
         ensures sound { IsMachine self.new }
     {
@@ -257,12 +273,7 @@ impl Machine {
     fn fail(&mut self, task: u8, cause: Cause) -> Told
         requires runs { IsRunning self.old.kernel task }
         requires somebody { task ≢ nobody }
-        ensures at { (image : ImageView) (h : History) → IsAt image self.old h →
-            exec (text_of image task) (body_at image h task) ≡ Faults cause →
-            IsAt image self.new (next_moment image h ∷ h) }
-        ensures told { (image : ImageView) (h : History) → IsAt image self.old h →
-            exec (text_of image task) (body_at image h task) ≡ Faults cause →
-            result ≡ told_of image (next_moment image h) h }
+        ensures done { Does self.old (moment_in self.old task (Faults cause)) result self.new }
         ensures spec { self.new.kernel.spec ≡ self.old.kernel.spec }
         ensures sound { IsMachine self.new }
     {

@@ -24,8 +24,8 @@ use Rattle.tm_system.proofs.Following.{IsGoodRun, boot_good, arrives_good, turne
 use Rattle.tm_system.proofs.Booting.{load_sound}
 use Rattle.tm_system.proofs.Texts.{controls_stay, controls_more}
 use Rattle.tm_system.proofs.Lengths.{epochs_few}
-use Rattle.tm_record.specs.Recording.{HaveBodies}
-use Rattle.tm_record.proofs.Bodies.{boot_bodies, arrives_bodies, turned_bodies}
+use Rattle.tm_system.specs.Bodies.{HaveBodies}
+use Rattle.tm_system.proofs.Bodies.{boot_bodies, arrives_bodies, turned_bodies}
 use Rattle.tm_record.proofs.Replies.{replies}
 use Rattle.tm_fidelity.proofs.Upto.{no_controls}
 use Rattle.tm_fidelity.proofs.Points.{marker_is}

@@ -1,6 +1,7 @@
 use Rattle.std.proofs.Common.{◌≡◌, ℕ, List, ◌<◌, Bool, true, false, refl, ap, sym, ◌∙◌, subst, arith, length, get_or, Some, slice_get, if◌then◌else◌, None}
 use Rattle.std.proofs.lemmas.Option.{slice_get_read}
 use Rattle.std.specs.Bool.{then_some}
+use Rattle.tm_task.specs.Exec.{Calls}
 use Rattle.tm_task.specs.Standing.{begins_epoch}
 use Rattle.tm_kernel.specs.declared.kernel.Need.{Need}
 use Rattle.tm_kernel.specs.State.{KernelState, IsRunning}
@@ -8,13 +9,13 @@ use Rattle.tm_kernel.specs.Service.{answer}
 use Rattle.tm_kernel.specs.Schedule.{rescheduled}
 use Rattle.tm_kernel.proofs.Answering.{call_same_rest}
 use Rattle.tm_kernel.proofs.Rescheduling.{rescheduling_same_rest}
-use Rattle.tm_image.specs.Image.{ImageView}
 use Rattle.tm_system.specs.declared.machine.Told.{Told}
-use Rattle.tm_system.specs.History.{History}
 use Rattle.tm_system.specs.Run.{left_by}
-use Rattle.tm_system.specs.Machine.{MachineView, IsAt}
-use Rattle.tm_system.proofs.Turning.{Runs, runs_of, sound_after}
-use Rattle.tm_system.proofs.Calling.{IsCalled, called_at, called_told, called_spec}
+use Rattle.tm_system.specs.Machine.{MachineView}
+use Rattle.tm_system.specs.Moving.{moment_in, Does}
+use Rattle.tm_system.proofs.Turning.{sound_after}
+use Rattle.tm_system.proofs.Doing.{call_does}
+use Rattle.tm_system.proofs.Calling.{IsCalled, called_spec}
 use Rattle.tm_system.proofs.machine.Machine.answer.Goals as goal
 use Rattle.tm_system.proofs.machine.Machine.answer.Goals.{After-nothing}
 
@@ -64,27 +65,29 @@ called c = record {
   tasks_is = ap (λ (m : MachineView). m.tasks) c.self-2.view_is;
 }
 
-runs : (c : After-nothing) (image : ImageView) (h : History) → IsAt image c.args.self.now h → Runs image h (old c) c.args.task
-runs c image h at = runs_of image h (old c) c.args.task (subst (λ (m : MachineView). IsAt image m h) (sym c.self.view_is) at)
-    c.self.invariant (running c)
+-- what is told
+abbrev told : After-nothing → Told
+told c = record {
+  entry = Some c.call-answer.result.entry;
+  output = c.call-answer.result.output;
+  checkpoint = c.then_some.result;
+  switch = c.switch.result;
+  fault = c.nothing.result.fault;
+  idle = c.nothing.result.idle;
+}
 
-pub returns-clause-at : goal.returns-clause-at
-returns-clause-at c = λ image h at did.
-    called_at image h (old c) c.reply-begins.new.self (new c) c.args.task c.args.service c.index.result.now
-    c.args-args.result c.call-answer.new.self c.call-answer.result.entry (runs c image h at) (called c) did
-
-pub returns-clause-told : goal.returns-clause-told
-returns-clause-told c = λ image h at did.
-    called_told image h (old c) c.reply-begins.new.self (new c) c.args.task c.args.service c.index.result.now
-    c.args-args.result c.call-answer.new.self c.call-answer.result.entry (runs c image h at)
-    c.self.invariant c.reschedule.ensures.sound (called c) did
+pub returns-clause-done : goal.returns-clause-done
+returns-clause-done c =
+    subst (λ (m : MachineView). Does m (moment_in m c.args.task (Calls c.args.service)) (told c) (new c)) c.self.view_is
+    (call_does (old c) c.reply-begins.new.self (new c) c.args.task c.args.service c.index.result.now
+    c.args-args.result c.call-answer.new.self c.call-answer.result.entry (sym (running c).runs) (called c)
     c.call-answer.result.output c.then_some.result c.left_by.result c.switch.result c.nothing.result.fault c.nothing.result.idle
     c.call-answer.ensures.output
     (c.then_some.ensures ∙ ap (λ (b : Bool). then_some b c.args.task) c.reply-begins.ensures.begins ∙ then_some_is (begins_epoch c.call-answer.result.entry) c.args.task)
     (c.left_by.ensures ∙ ap (λ (n : Need). left_by n) c.call-answer.ensures.need)
     c.switch.ensures
     (ap (λ (t : Told). t.fault) c.nothing.ensures)
-    (ap (λ (t : Told). t.idle) c.nothing.ensures)
+    (ap (λ (t : Told). t.idle) c.nothing.ensures))
 
 pub returns-clause-spec : goal.returns-clause-spec
 returns-clause-spec c =

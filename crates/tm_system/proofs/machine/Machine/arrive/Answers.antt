@@ -1,15 +1,16 @@
-use Rattle.std.proofs.Common.{◌≡◌, ℕ, refl, ap, sym, ◌∙◌, subst, List, ◌∷◌, length, Option, None, ◌==◌}
-use Rattle.tm_marker.specs.declared.entries.Switch.{Switch}
-use Rattle.tm_kernel.specs.State.{KernelState, IsKernel, nobody}
+use Rattle.std.proofs.Common.{◌≡◌, ℕ, refl, ap, sym, ◌∙◌, subst, List, length, None}
+use Rattle.tm_kernel.specs.State.{KernelState, IsKernel}
 use Rattle.tm_kernel.specs.Schedule.{rescheduled, arrived}
-use Rattle.tm_image.specs.Image.{ImageView}
 use Rattle.tm_system.specs.declared.machine.Told.{Told}
 use Rattle.tm_system.specs.History.{History}
-use Rattle.tm_system.specs.Run.{now, arrival, arrives}
-use Rattle.tm_system.specs.Machine.{MachineView, IsAt, IsMachine, arrival_told}
+use Rattle.tm_system.specs.Run.{arrival}
+use Rattle.tm_system.specs.Machine.{MachineView, IsAt, IsMachine}
+use Rattle.tm_system.specs.Moving.{whole_in, Does}
 use Rattle.tm_system.specs.Parts.{IsTaskOrNobody, switched}
-use Rattle.tm_system.proofs.Turning.{runner_within, sound_after, arrival_spec, arrival_at, arrival_switch, arrival_told_is, arrives_goes, arrival_told_goes}
+use Rattle.tm_system.proofs.Turning.{runner_within, sound_after, arrival_spec, arrives_goes, arrival_told_goes}
+use Rattle.tm_system.proofs.Doing.{arrival_does, comes_at, comes_told}
 use Rattle.tm_system.proofs.machine.Machine.arrive.Goals as goal
+use Rattle.tm_system.proofs.machine.Machine.arrive.Goals.{After-nothing-2}
 
 -- what the kernel is after its two steps
 done : (k first second : KernelState) (mask : ℕ) (ports : List ℕ) → first ≡ arrived k mask ports → second ≡ rescheduled first →
@@ -24,36 +25,12 @@ sound_done : (inside after : MachineView) (mask : ℕ) (ports : List ℕ) → Is
 sound_done inside after mask ports sound tasks e kernel =
     sound_after inside after sound (ap length tasks) (spec_done inside.kernel after.kernel mask ports e) kernel
 
--- the machine, and what it tells, after an arrival while the run goes on
-at_done : (image : ImageView) (h : History) (old after : MachineView) (mask : ℕ) (ports : List ℕ) → IsAt image old h →
-    old.kernel.ended ≡ 0 → after.tasks ≡ old.tasks → after.kernel ≡ rescheduled (arrived old.kernel mask ports) →
-    IsAt image after (arrives image mask ports h)
-at_done image h old after mask ports at goes tasks e =
-    let ended : (now image h).kernel.ended ≡ 0 = sym (ap (λ (k : KernelState). k.ended) at.kernel) ∙ goes in
-    subst (λ (x : History). IsAt image after x) (sym (arrives_goes image h mask ports ended))
-    (arrival_at image h old after mask ports at e (spec_done old.kernel after.kernel mask ports e) tasks)
-
-told_done : (image : ImageView) (h : History) (old after : MachineView) (mask : ℕ) (ports : List ℕ) (quiet : Told) (switch : Option Switch) →
-    IsAt image old h → IsMachine old → old.kernel.ended ≡ 0 → after.tasks ≡ old.tasks →
-    after.kernel ≡ rescheduled (arrived old.kernel mask ports) → IsKernel after.kernel →
-    quiet ≡ record { entry = None; output = None; checkpoint = None; switch = None; fault = 0; idle = (after.kernel.running == nobody) } →
-    switch ≡ switched after old.kernel.running None →
-    record quiet { switch = switch } ≡ arrival_told image mask ports h
-told_done image h old after mask ports quiet switch at sound goes tasks e kernel q s =
-    let ended : (now image h).kernel.ended ≡ 0 = sym (ap (λ (k : KernelState). k.ended) at.kernel) ∙ goes in
-    let after_at : IsAt image after (arrival (now image h) mask ports ∷ h) =
-    arrival_at image h old after mask ports at e (spec_done old.kernel after.kernel mask ports e) tasks in
-    let after_sound : IsMachine after = sound_done old after mask ports sound tasks e kernel in
-    arrival_told_is image h mask ports _ _ _ _ _ _
-    (ap (λ (t : Told). t.entry) q) (ap (λ (t : Told). t.output) q) (ap (λ (t : Told). t.checkpoint) q)
-    (s ∙ arrival_switch image h old after mask ports at sound after_sound after_at)
-    (ap (λ (t : Told). t.fault) q)
-    (ap (λ (t : Told). t.idle) q ∙ ap (λ (k : KernelState). k.running == nobody) after_at.kernel) ∙
-    sym (arrival_told_goes image h mask ports ended)
-
 -- the machine inside the loan
 abbrev with_kernel : MachineView → KernelState → MachineView
 with_kernel m kernel = record { tasks = m.tasks; kernel = kernel }
+
+abbrev inside : After-nothing-2 → MachineView
+inside c = record { tasks = c.self.inside.tasks.items; kernel = c.self.inside.kernel }
 
 pub invariant_of-self : goal.invariant_of-self
 invariant_of-self c =
@@ -68,23 +45,42 @@ switch-requires c =
     subst (λ (r : ℕ). IsTaskOrNobody (length c.self.inside.tasks.items) r) (sym c.running-from.ensures.task)
     (runner_within inside c.self.invariant)
 
+-- the machine did the arrival
+does : (c : After-nothing-2) → Does c.args.self.now (arrival (whole_in c.args.self.now) c.args.mask c.args.ports)
+    (record c.nothing-2.result { switch = c.switch.result }) (with_kernel (inside c) c.reschedule.new.self)
+does c =
+    subst (λ (m : MachineView). Does m (arrival (whole_in m) c.args.mask c.args.ports) (record c.nothing-2.result { switch = c.switch.result })
+    (with_kernel (inside c) c.reschedule.new.self)) c.self.view_is
+    (arrival_does (inside c) (with_kernel (inside c) c.reschedule.new.self) c.args.mask c.args.ports refl
+    (done c.self.inside.kernel c.arrive.new.self c.reschedule.new.self c.args.mask c.args.ports c.arrive.ensures.arrived c.reschedule.ensures.rescheduled)
+    _ _ _ _ _ _
+    (ap (λ (t : Told). t.entry) c.nothing-2.ensures)
+    (ap (λ (t : Told). t.output) c.nothing-2.ensures)
+    (ap (λ (t : Told). t.checkpoint) c.nothing-2.ensures)
+    (c.switch.ensures ∙ ap (λ (r : ℕ). switched (with_kernel (inside c) c.reschedule.new.self) r None) c.running-from.ensures.task)
+    (ap (λ (t : Told). t.fault) c.nothing-2.ensures)
+    (ap (λ (t : Told). t.idle) c.nothing-2.ensures))
+
+goes : (c : After-nothing-2) → c.args.self.now.kernel.ended ≡ 0
+goes c = sym (ap (λ (m : MachineView). m.kernel.ended) c.self.view_is) ∙ sym c.ended.ensures ∙ c.if-ended-ne0.false
+
+pub returns-clause-done : goal.returns-clause-done
+returns-clause-done c = λ ended. does c
+
 pub returns-clause-at : goal.returns-clause-at
 returns-clause-at c = λ image h at.
-    let inside : MachineView = record { tasks = c.self.inside.tasks.items; kernel = c.self.inside.kernel } in
-    at_done image h inside (with_kernel inside c.reschedule.new.self) c.args.mask c.args.ports
-    (subst (λ (m : MachineView). IsAt image m h) (sym c.self.view_is) at)
-    (sym c.ended.ensures ∙ c.if-ended-ne0.false) refl
-    (done c.self.inside.kernel c.arrive.new.self c.reschedule.new.self c.args.mask c.args.ports c.arrive.ensures.arrived c.reschedule.ensures.rescheduled)
+    subst (λ (g : History). IsAt image (with_kernel (inside c) c.reschedule.new.self) g)
+    (sym (arrives_goes image h c.args.mask c.args.ports (sym (ap (λ (k : KernelState). k.ended) at.kernel) ∙ goes c)))
+    (comes_at image h c.args.self.now (with_kernel (inside c) c.reschedule.new.self) c.args.mask c.args.ports _ at (does c))
 
 pub returns-clause-told : goal.returns-clause-told
 returns-clause-told c = λ image h at.
-    let inside : MachineView = record { tasks = c.self.inside.tasks.items; kernel = c.self.inside.kernel } in
-    told_done image h inside (with_kernel inside c.reschedule.new.self) c.args.mask c.args.ports c.nothing-2.result c.switch.result
-    (subst (λ (m : MachineView). IsAt image m h) (sym c.self.view_is) at) c.self.invariant
-    (sym c.ended.ensures ∙ c.if-ended-ne0.false) refl
+    comes_told image h c.args.self.now (with_kernel (inside c) c.reschedule.new.self) c.args.mask c.args.ports _ at
+    (subst IsMachine c.self.view_is c.self.invariant)
+    (sound_done (inside c) (with_kernel (inside c) c.reschedule.new.self) c.args.mask c.args.ports c.self.invariant refl
     (done c.self.inside.kernel c.arrive.new.self c.reschedule.new.self c.args.mask c.args.ports c.arrive.ensures.arrived c.reschedule.ensures.rescheduled)
-    c.reschedule.ensures.sound c.nothing-2.ensures
-    (c.switch.ensures ∙ ap (λ (r : ℕ). switched (with_kernel inside c.reschedule.new.self) r None) c.running-from.ensures.task)
+    c.reschedule.ensures.sound) (does c) ∙
+    sym (arrival_told_goes image h c.args.mask c.args.ports (sym (ap (λ (k : KernelState). k.ended) at.kernel) ∙ goes c))
 
 pub returns-clause-spec : goal.returns-clause-spec
 returns-clause-spec c =

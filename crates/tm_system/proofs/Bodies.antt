@@ -16,7 +16,7 @@ use Rattle.tm_image.specs.Image.{ImageView, IsImage, IsLoad, load_of, entry_of, 
 use Rattle.tm_system.specs.History.{Whole, History}
 use Rattle.tm_system.specs.Run.{now, running_at, body_at, no_body, arrives, moment_by, next_moment, turned, turns, sliced, played}
 use Rattle.tm_system.proofs.Booting.{load_sound, body_booted}
-use Rattle.tm_record.specs.Recording.{IsBodyOf, HaveBodies}
+use Rattle.tm_system.specs.Bodies.{IsBodyOf, HaveBodies}
 
 -- a list of bodies that the image's tasks can have
 record BodiesFit (image : ImageView) (bodies : List Body) : Type 0 where
