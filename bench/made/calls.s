@@ -1,20 +1,15 @@
 # A loop of branches and calls within the text: which way a branch goes, and which function is called,
-# depends on a number that changes at each turn.
+# depends on a count of the turns, with a period of eight.
         .globl _start
-_start: li      s0, 1
-again:  slli    t0, s0, 13
-        xor     s0, s0, t0
-        srli    t0, s0, 17
-        xor     s0, s0, t0
-        slli    t0, s0, 5
-        xor     s0, s0, t0
+_start: li      s0, 0
+again:  addi    s0, s0, 1
         andi    a0, s0, 7
         jal     ra, chosen
         add     s1, s1, a0
         andi    a0, s0, 3
         beqz    a0, even
         jal     ra, double
-        bgeu    s1, s0, again
+        bgeu    s0, s1, again
         jal     ra, sign
         j       again
 even:   jal     ra, sign
