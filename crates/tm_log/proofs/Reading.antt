@@ -15,7 +15,7 @@ module _ {X : Type 0} where
       ∙ ap (λ x. x ∷ drop (index + 1) items) (get_or_from_slice_get items index item item there)
 
   -- the item of a number that is kept, by its place
-  there_at : (ring : Kept X) (number : ℕ) (item : X) → first_of ring ≤ number → item_of ring number ≡ Some item →
+  pub there_at : (ring : Kept X) (number : ℕ) (item : X) → first_of ring ≤ number → item_of ring number ≡ Some item →
       slice_get ring.items (number - first_of ring) ≡ Some item
   there_at ring number item reached is = grind (arith, common_steps)
 
