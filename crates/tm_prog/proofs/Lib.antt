@@ -3,7 +3,6 @@ pub mod Endings
 pub mod Noting
 pub mod Starting
 pub mod Traced
-pub mod Stretching
 pub mod Delivering
 pub mod Answering
 pub mod Consequences

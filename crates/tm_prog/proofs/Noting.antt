@@ -17,7 +17,7 @@ use Rattle.tm_system.specs.Telling.{made, pending, printed, view_at, leave_at, c
 use Rattle.tm_system.specs.Machine.{MachineView, IsAt, told_of}
 use Rattle.tm_system.specs.Parts.{IsTaskOrNobody}
 use Rattle.tm_system.proofs.Texts.{controls_more}
-use Rattle.tm_prog.specs.Teller.{TellerView, Tells, view_by, view_in, words_in, printed_by, leave_in, printed_after, TellsSwitch, waiting, TellsSwitchIn, Notes}
+use Rattle.tm_prog.specs.Teller.{TellerView, Tells, view_by, view_in, words_in, printed_by, leave_in, printed_after, with_switch, waiting, with_switch_in, after_telling}
 use Rattle.tm_prog.proofs.TellerSteps.{TellsEntry, quiet_told, entry_told}
 
 -- the outputs of a moment are the running task's
@@ -91,37 +91,39 @@ printed_after_own machine old from somebody there =
     rw (ne_eqb from nobody somebody) (slice_get_set_same old.printed from (words_in machine from) there)
 
 -- what was told of a control entry is its block
-switch_told : (image : ImageView) (m : Moment) (h : History) (machine : MachineView) (old new : TellerView) →
+switch_told : (image : ImageView) (m : Moment) (h : History) (machine : MachineView) (old : TellerView) →
     length image.loads ≤ 16 → IsAt image machine (m ∷ h) → Tells image old h → IsOwn image h m →
     IsTaskOrNobody (length image.loads) (running_at image h) → is_switch image m h ≡ true →
-    TellsSwitch machine (switch_at image m h) (cause_of m.deed) (waiting old (output_of m.deed)) new → TellsEntry image m h old new
-switch_told image m h machine old new few at s own whose e n =
+    TellsEntry image m h old (with_switch machine (switch_at image m h) (cause_of m.deed) (waiting old (output_of m.deed)))
+switch_told image m h machine old few at s own whose e =
     let r : ℕ = running_at image h in
     let seq : old.entries + 1 ≡ length (controls image (m ∷ h)) =
     omega (arith, s.entries, ap length (controls_more image m h e), length-append (controls image h) (switch_at image m h ∷ [])) in
     record {
-      text = n.text ∙ ap (λ b. old.text ++ block_text b)
+      text = ap (λ b. old.text ++ block_text b)
           (same_block _ _ (switch_at image m h) _ _ seq (leave_told image m h machine old at s own whose));
-      entries = n.entries;
-      tasks = ap length n.printed ∙ length-printed_after machine (waiting old (output_of m.deed)) r;
-      others = λ task other. ap (λ p. slice_get p task) n.printed ∙ printed_after_other machine (waiting old (output_of m.deed)) r task other;
+      entries = refl;
+      tasks = length-printed_after machine (waiting old (output_of m.deed)) r;
+      others = λ task other. printed_after_other machine (waiting old (output_of m.deed)) r task other;
       own = λ there.
           let somebody : r ≢ nobody = λ q. (let big : nobody < 16 = omega (arith, there, few, q) in absurd (omega arith)) in
           let within : r < length old.printed = rw s.tasks there in
-          ap (λ p. slice_get p r) n.printed ∙ printed_after_own machine (waiting old (output_of m.deed)) r somebody within ∙
+          printed_after_own machine (waiting old (output_of m.deed)) r somebody within ∙
           ap Some (words_at_is image (m ∷ h) machine r at there);
-      pending = n.pending;
+      pending = refl;
     }
 
 -- a moment is noted
-pub noted : (image : ImageView) (m : Moment) (h : History) (machine : MachineView) (old new : TellerView) →
+pub noted : (image : ImageView) (m : Moment) (h : History) (machine : MachineView) (task : ℕ) (old : TellerView) →
     length image.loads ≤ 16 → IsAt image machine (m ∷ h) → Tells image old h → IsOwn image h m → IsTaskOrNobody (length image.loads) (running_at image h) →
-    Notes machine (told_of image m h) old new → Tells image new (m ∷ h)
-noted image m h machine old new few at s own whose notes = go (is_switch image m h) refl
+    Tells image (after_telling machine task (told_of image m h) old) (m ∷ h)
+noted image m h machine task old few at s own whose = go (is_switch image m h) refl
   where
-    go : (b : Bool) → is_switch image m h ≡ b → Tells image new (m ∷ h)
-    go true e = entry_told image m h old new s e (switch_told image m h machine old new few at s own whose e
-        (subst (λ b. TellsSwitchIn machine (if b then Some (switch_at image m h) else None) (cause_of m.deed) (waiting old (output_of m.deed)) new) e notes))
-    go false e = quiet_told image m h old new s e
-        (subst (λ b. TellsSwitchIn machine (if b then Some (switch_at image m h) else None) (cause_of m.deed) (waiting old (output_of m.deed)) new) e notes ∙
+    go : (b : Bool) → is_switch image m h ≡ b → Tells image (after_telling machine task (told_of image m h) old) (m ∷ h)
+    go true e = entry_told image m h old (after_telling machine task (told_of image m h) old) s e
+        (subst (λ b. TellsEntry image m h old
+        (with_switch_in machine (if b then Some (switch_at image m h) else None) (cause_of m.deed) (waiting old (output_of m.deed)))) (sym e)
+        (switch_told image m h machine old few at s own whose e))
+    go false e = quiet_told image m h old (after_telling machine task (told_of image m h) old) s e
+        (ap (λ b. with_switch_in machine (if b then Some (switch_at image m h) else None) (cause_of m.deed) (waiting old (output_of m.deed))) e ∙
         ap (λ o. (let t : TellerView = record old { pending = old.pending ++ o } in t)) (sym own))

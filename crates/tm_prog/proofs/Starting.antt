@@ -13,8 +13,8 @@ use Rattle.tm_system.specs.Controls.{controls}
 use Rattle.tm_system.specs.Telling.{below, number_of, start_at, last_at, printed, pending, blocks, story}
 use Rattle.tm_system.specs.Machine.{MachineView, IsAt}
 use Rattle.tm_system.proofs.Below.{length-below, below_same, slice_get-below}
-use Rattle.tm_prog.specs.Teller.{TellerView, Tells, TellsStart, start_by, start_in, view_in, words_in, last_in}
-use Rattle.tm_prog.specs.Tracing.{IsTraced}
+use Rattle.tm_prog.specs.Teller.{TellerView, Tells, HasTold, TellsStart, start_by, start_in, view_in, words_in, last_in}
+use Rattle.tm_system.specs.Hearing.{StandAt}
 use Rattle.tm_prog.proofs.Noting.{view_at_is, words_at_is}
 use Rattle.tm_prog.proofs.TellerSteps.{end_told}
 
@@ -65,20 +65,20 @@ same_last : (s r : ℕ) (v w : View) (o p : List OutputEntry) → s ≡ r → v 
 same_last s r v w o p d e f = cc
 
 last_view : (image : ImageView) (h : History) (machine : MachineView) (teller : TellerView) (t : ℕ) → length image.loads ≤ 16 →
-    IsTraced image h machine teller → t < length image.loads → last_in machine teller.printed teller.pending t ≡ last_at image 0 h t
+    StandAt HasTold image machine teller h → t < length image.loads → last_in machine teller.printed teller.pending t ≡ last_at image 0 h t
 last_view image h machine teller t few tr there =
     same_last _ _ _ _ _ _
     (ap (λ k. number_of (slice_get k.states t)) tr.at.kernel)
-    (ap (λ b. view_in machine t b) (ap (λ o. unwrap_or o []) (tr.tells.printed t there)) ∙
+    (ap (λ b. view_in machine t b) (ap (λ o. unwrap_or o []) (tr.stood.printed t there)) ∙
     view_at_is image h machine t (printed image 0 t h) tr.at there (below_nobody image t few there))
     (ap (λ k. if t == k.running then teller.pending else []) tr.at.kernel ∙
     elim (cases_Bool (t == running_at image h)) [
-      | inl e ↦ rw e (tr.tells.pending ∙ ap (λ r. pending image r h) (sym (eqb-true t (running_at image h) e)))
+      | inl e ↦ rw e (tr.stood.pending ∙ ap (λ r. pending image r h) (sym (eqb-true t (running_at image h) e)))
       | inr e ↦ rw e refl
     ])
 
 pub end_traced : (image : ImageView) (h : History) (machine : MachineView) (teller : TellerView) → length image.loads ≤ 16 →
-    IsTraced image h machine teller →
+    StandAt HasTold image machine teller h →
     teller.text ++ end_text machine.kernel.running machine.kernel.ended (below (length machine.tasks) (last_in machine teller.printed teller.pending)) ≡
     spelled (story image 0 h)
 end_traced image h machine teller few tr =
@@ -87,4 +87,4 @@ end_traced image h machine teller few tr =
     below_same (length image.loads) _ _ (λ t there. last_view image h machine teller t few tr there) in
     ap (λ k. teller.text ++ end_text k.running k.ended (below (length machine.tasks) (last_in machine teller.printed teller.pending))) tr.at.kernel ∙
     ap (λ ls. teller.text ++ end_text (running_at image h) (now image h).kernel.ended ls) lasts ∙
-    end_told image h teller tr.tells
+    end_told image h teller tr.stood

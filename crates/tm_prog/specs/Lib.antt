@@ -10,4 +10,4 @@ pub mod Answer
 pub mod World
 pub mod Outcome
 pub mod Teller
-pub mod Tracing
+pub mod Resting

@@ -118,11 +118,13 @@ printed_after machine teller from =
     if from == nobody then teller.printed else slice_set teller.printed from (words_in machine from)
 
 -- the teller after one more control entry
-pub record TellsSwitch (machine : MachineView) (switch : Switch) (cause : ℕ) (old new : TellerView) : Type 0 where
-  pub text : new.text ≡ old.text ++ block_text (block_in machine old switch cause)
-  pub entries : new.entries ≡ old.entries + 1
-  pub printed : new.printed ≡ printed_after machine old switch.from
-  pub pending : new.pending ≡ []
+abbrev pub with_switch : MachineView → Switch → ℕ → TellerView → TellerView
+with_switch machine switch cause teller = record {
+  text = teller.text ++ block_text (block_in machine teller switch cause);
+  entries = teller.entries + 1;
+  printed = printed_after machine teller switch.from;
+  pending = [];
+}
 
 -- a task's state by its number
 abbrev pub state_in : MachineView → ℕ → ℕ
@@ -154,10 +156,14 @@ abbrev pub waiting : TellerView → Option OutputEntry → TellerView
 waiting teller output = record teller { pending = teller.pending ++ option_to_list output }
 
 -- the teller after a control entry, where there is one
-abbrev pub TellsSwitchIn : MachineView → Option Switch → ℕ → TellerView → TellerView → Type 0
-TellsSwitchIn machine None cause old new = new ≡ old
-TellsSwitchIn machine (Some switch) cause old new = TellsSwitch machine switch cause old new
+abbrev pub with_switch_in : MachineView → Option Switch → ℕ → TellerView → TellerView
+with_switch_in machine None cause teller = teller
+with_switch_in machine (Some switch) cause teller = with_switch machine switch cause teller
 
 -- the teller after what was told of a moment: its output waits, then its control entry is told
-abbrev pub Notes : MachineView → Told → TellerView → TellerView → Type 0
-Notes machine told old new = TellsSwitchIn machine told.switch told.fault (waiting old told.output) new
+abbrev pub after_telling : MachineView → ℕ → Told → TellerView → TellerView
+after_telling machine task told teller = with_switch_in machine told.switch told.fault (waiting teller told.output)
+
+-- the teller has told the history
+abbrev pub HasTold : ImageView → History → TellerView → Type 0
+HasTold image h teller = Tells image teller h
