@@ -6,3 +6,4 @@ pub mod Comparing
 pub mod Showing
 pub mod Passing
 pub mod Wholes
+pub mod Running

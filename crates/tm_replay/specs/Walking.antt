@@ -1,5 +1,5 @@
 -- A task that is replayed, as the code holds it, and the task by itself that it is.
-use Rattle.std.specs.Prelude.{◌≡◌, ℕ, ◌+◌, ◌<◌, ◌≤◌, true, false, length, Result, Ok, Err, Option, Some, None}
+use Rattle.std.specs.Prelude.{◌≡◌, ℕ, ◌+◌, ◌-◌, ◌<◌, ◌≤◌, ◌⊎◌, true, false, length, Result, Ok, Err, Option, Some, None}
 use Rattle.tm_marker.specs.declared.marker.Marker.{Marker}
 use Rattle.tm_marker.specs.Order.{marker_eq}
 use Rattle.tm_ring.specs.Kept.{first_of}
@@ -7,7 +7,7 @@ use Rattle.tm_log.specs.Points.{items_from}
 use Rattle.tm_task.specs.Exec.{exec}
 use Rattle.tm_task.specs.Place.{Place}
 use Rattle.tm_task.specs.Standing.{Standing, marker_of}
-use Rattle.tm_system.specs.Alone.{Alone, Walk, Comes, Sticks, next_or_why, walk_to}
+use Rattle.tm_system.specs.Alone.{Alone, Walk, Comes, Sticks, next_or_why, walk_to, height}
 use Rattle.tm_system.specs.ReplayLaws.{IsWalker}
 use Rattle.tm_system.specs.Tracing.{Tracing, On, Off, meet_walk, meet_fault, stopped}
 use Rattle.tm_system.specs.Wanted.{Way, Demand}
@@ -84,3 +84,17 @@ DidFault a seq wanted p (Err (Lost l)) = ⊥
 DidFault a seq wanted p (Err (HasDiverged d)) =
     (way : Way) (t : Tracing) → meet_fault a (record { seq = seq; at = wanted; way = way }) t p (exec a.text p.standing.body) ≡ Off d
 DidFault a seq wanted p (Err Memory) = ⊥
+
+-- a task at a marker that goes on in its epoch by so many instructions is before another marker until the
+-- last of them
+abbrev pub IsSafe : Marker → Marker → ℕ → Type 0
+IsSafe at wanted most =
+    (most ≡ 0) ⊎ ((at.epoch < wanted.epoch) ⊎ ((at.epoch ≡ wanted.epoch) × (at.count + most ≤ wanted.count)))
+
+-- the task went on, and comes from here where it came from before
+pub record RunsTo (old : Walker) (wanted : Marker) (new : Walker) : Type 0 where
+  pub same : alone_of new ≡ alone_of old
+  pub words : length new.task.standing.body.words ≡ length old.task.standing.body.words
+  pub walks : walk_to (alone_of old) wanted (place_of new) ≡ walk_to (alone_of old) wanted (place_of old)
+  pub nearer : height wanted - height (marker_of new.task.standing) ≤ height wanted - height (marker_of old.task.standing)
+  pub epoch : new.task.standing.epoch ≡ old.task.standing.epoch

@@ -7,7 +7,7 @@ ghost use Rattle.tm_task.specs.Place.{output_of};
 ghost use Rattle.tm_task.specs.Standing.{args_of, marker_of};
 ghost use Rattle.tm_system.specs.Alone.{walk_to};
 ghost use Rattle.tm_replay.specs.declared.fault.ReplayFault.{ReplayFault};
-ghost use Rattle.tm_replay.specs.Walking.{alone_of, place_of, IsSound, WentOn, Walked, Reached, Stood, DidFault, diverged_at};
+ghost use Rattle.tm_replay.specs.Walking.{alone_of, place_of, IsSound, WentOn, Walked, Reached, Stood, DidFault, diverged_at, IsSafe, RunsTo};
 
 use crate::ReplayFault;
 use std::alloc::AllocError;
@@ -45,10 +45,11 @@ impl Walker<'_> {
         ensures words { OnOk result (length self.new.task.standing.body.words ≡ length self.old.task.standing.body.words) }
         ensures walked { Walked (walk_to (alone_of self.old) wanted (place_of self.old)) result self.new }
     {
+        self.run_on(wanted);
         'walk: while self.task.marker().is_before(wanted) {
             match self.step()? {
                 Some(why) => return Ok(Some(why)),
-                None => {}
+                None => self.run_on(wanted),
             }
         }
         Ok(None)
@@ -115,6 +116,20 @@ impl Walker<'_> {
         })
     }
 
+    /// Goes on by instructions of the text alone, no more than surely don't take the task past a marker.
+    fn run_on(&mut self, wanted: Marker)
+        requires sound { IsSound self.old }
+        requires epoch { wanted.epoch < 2 ^ 53 }
+        ensures ran { RunsTo self.old wanted self.new }
+        ensures sound { IsSound self.new }
+    {
+        let most = surely_before(self.task.marker(), wanted);
+        if most == 0 {
+            return;
+        }
+        self.task.advance(self.text, most);
+    }
+
     /// Goes on by one instruction, or tells why there is no next place.
     fn step(&mut self) -> Result<Option<Why>, AllocError>
         requires sound { IsSound self.old }
@@ -161,6 +176,20 @@ impl Walker<'_> {
         self.used += 1;
         Ok(None)
     }
+}
+
+/// How many instructions surely don't take a task past a marker: each raises the count by one at most, and
+/// only a new epoch sets it back.
+fn surely_before(at: Marker, wanted: Marker) -> u32
+    ensures { IsSafe at wanted result }
+{
+    if at.epoch < wanted.epoch {
+        return u32::MAX;
+    }
+    if at.epoch == wanted.epoch && at.count < wanted.count {
+        return wanted.count - at.count;
+    }
+    0
 }
 
 /// The output that a call with these arguments makes, where it is answered so.
