@@ -18,7 +18,7 @@ use Rattle.tm_lines.proofs.Keeping.{lines_keep}
 use Rattle.tm_image.proofs.Kept.{IsLoadSoFar, IsSoFar, any_false, line_keeps, none_so_far}
 
 -- a whole draft passed both tests
-whole_passed : (missing outside : Bool) (d t : Draft)
+pub whole_passed : (missing outside : Bool) (d t : Draft)
     → (if missing then Err Missing else (if outside then Err Range else Ok d)) ≡ Ok t
     → (missing ≡ false) × (outside ≡ false) × (d ≡ t)
 whole_passed true outside d t e = cc e

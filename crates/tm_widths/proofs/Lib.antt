@@ -1,4 +1,5 @@
 pub mod Kernels
+pub mod Images
 pub mod Bodies
 pub mod Runs
 pub mod Windows

@@ -1,6 +1,11 @@
 //! What a dump of a run says.
 
-ghost use Rattle.tm_widths.specs.Legible.{DumpsOfRunsAreRead, DumpsTellRuns};
+ghost use Rattle.tm_widths.specs.Legible.{DumpsOfRunsAreRead, DumpsTellRuns, ImagesFit};
+
+/// Each data word and each mask of events of an image that a text gives is a number of 32 bits.
+pub fn images_fit()
+    ensures { ImagesFit }
+{}
 
 /// The dump of every run is read, and gives the run's window.
 pub fn dumps_of_runs_are_read()

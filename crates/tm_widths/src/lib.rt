@@ -4,4 +4,4 @@
 
 mod legible;
 
-pub use legible::{dumps_of_runs_are_read, dumps_tell_runs};
+pub use legible::{dumps_of_runs_are_read, dumps_tell_runs, images_fit};
