@@ -1,5 +1,5 @@
 -- The demands on a task, met one after another.
-use Rattle.std.proofs.Common.{◌≡◌, ℕ, ◌+◌, ◌-◌, ◌<◌, ◌≤◌, Bool, true, false, ◌==◌, List, [], ◌∷◌, ◌++◌, length, slice_get, get_or, Some, Result, Ok, Err, refl, ap, sym, subst, ◌∙◌}
+use Rattle.std.proofs.Common.{◌≡◌, ℕ, ◌+◌, ◌-◌, ◌<◌, ◌≤◌, Bool, true, false, ◌==◌, [], ◌∷◌, ◌++◌, length, slice_get, get_or, Some, Result, Ok, Err, refl, ap, sym, subst, ◌∙◌}
 use Rattle.std.specs.Prelude.{OnOk}
 use Rattle.std.proofs.lemmas.Bool.{eq-eqb, ne_eqb}
 use Rattle.std.proofs.lemmas.Option.{slice_get_within, get_or_from_slice_get}
@@ -14,8 +14,8 @@ use Rattle.tm_log.proofs.Reading.{there_at, items_at, items_past}
 use Rattle.tm_task.specs.Exec.{exec}
 use Rattle.tm_task.specs.Place.{Place}
 use Rattle.tm_task.specs.Standing.{marker_of}
-use Rattle.tm_system.specs.Alone.{Alone, Walk, Comes, Sticks, walk_to}
-use Rattle.tm_system.specs.Tracing.{Tracing, Going, On, Off, meet, meets, meet_by, meet_at, meet_walk, meet_fault, stopped, diverged, begun}
+use Rattle.tm_system.specs.Alone.{Alone, Comes, Sticks, walk_to}
+use Rattle.tm_system.specs.Tracing.{Tracing, Going, On, Off, meet, meets, meet_at, meet_walk, meet_fault, stopped, begun}
 use Rattle.tm_system.specs.Wanted.{Way, Starts, Leaves, Stands, Runs, Demand, wanted_by, left_wanted, resumed_wanted, last_wanted, is_fault}
 use Rattle.tm_system.specs.declared.diverged.Diverged.{Diverged}
 use Rattle.tm_system.specs.declared.diverged.Why.{Why}

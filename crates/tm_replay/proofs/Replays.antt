@@ -1,6 +1,6 @@
 -- A replay of a task from its start to its end.
-use Rattle.std.proofs.Common.{◌≡◌, ℕ, ◌+◌, ◌-◌, ◌^◌, ◌<◌, ◌≤◌, ◌==◌, List, [], ◌∷◌, ◌++◌, length, Option, Some, None, Result, Ok, Err, slice_get, get_or, refl, ap, sym, subst, ◌∙◌, arith, All, inl, inr, cond}
-use Rattle.std.specs.Prelude.{unwrap_or, IsSomeAnd, if◌then◌else◌}
+use Rattle.std.proofs.Common.{◌≡◌, ℕ, ◌+◌, ◌-◌, ◌^◌, ◌<◌, ◌≤◌, ◌==◌, [], ◌∷◌, ◌++◌, length, Option, Some, None, Result, Err, slice_get, get_or, ap, sym, subst, ◌∙◌, arith, inl, inr}
+use Rattle.std.specs.Prelude.{IsSomeAnd, if◌then◌else◌}
 use Rattle.std.proofs.lemmas.Bool.{cases_lt}
 use Rattle.std.proofs.lemmas.Grind.{common_steps}
 use Rattle.std.proofs.lemmas.Option.{slice_get_within}
@@ -14,7 +14,7 @@ use Rattle.tm_check.specs.Checkpoint.{Checkpoint, KeptChecks, check_of, first_ep
 use Rattle.tm_image.specs.Image.{ImageView}
 use Rattle.tm_log.specs.Points.{entries_from, marker_at_point, tail_marker}
 use Rattle.tm_log.specs.Window.{WindowView, log_of, checks_of}
-use Rattle.tm_log.specs.WellFormed.{IsWellFormed, IsEntry, IsFilled}
+use Rattle.tm_log.specs.WellFormed.{IsWellFormed, IsEntry}
 use Rattle.tm_points.specs.Finder.{lost_of, lost_of_check, lost_of_epoch, lost_of_task}
 use Rattle.tm_points.specs.Laws.{IsReplayable}
 use Rattle.tm_points.proofs.Replayable.{needed}

@@ -1,5 +1,5 @@
 -- Where a task starts whose checkpoint is kept.
-use Rattle.std.proofs.Common.{◌≡◌, ℕ, ◌-◌, ◌%◌, ◌<◌, ◌≤◌, length, Option, Some, None, slice_get, get_or, refl, ap, sym, subst, ◌∙◌, arith, All}
+use Rattle.std.proofs.Common.{◌≡◌, ℕ, ◌-◌, ◌%◌, ◌<◌, ◌≤◌, length, Option, Some, None, slice_get, refl, ap, sym, subst, ◌∙◌, arith, All}
 use Rattle.std.specs.Prelude.{unwrap_or, option_map, []}
 use Rattle.std.proofs.lemmas.Grind.{common_steps}
 use Rattle.std.proofs.lemmas.Option.{slice_get_within, get_or_from_slice_get}
@@ -13,7 +13,6 @@ use Rattle.tm_check.specs.declared.checks.CheckRef.{CheckRef}
 use Rattle.tm_image.specs.Image.{ImageView, entry_of, text_of}
 use Rattle.tm_log.specs.Window.{WindowView, log_of, checks_of}
 use Rattle.tm_log.specs.WellFormed.{IsWellFormed, IsCheckpoint}
-use Rattle.tm_points.specs.declared.finder.Lost.{Lost}
 use Rattle.tm_points.specs.Finder.{lost_of_check, lost_of_epoch}
 use Rattle.tm_task.specs.Place.{start_place}
 use Rattle.tm_task.specs.Standing.{IsTask}

@@ -1,6 +1,5 @@
 -- A task that goes on by itself, one instruction after another.
-use Rattle.std.proofs.Common.{◌≡◌, ℕ, zero, suc, ◌+◌, ◌-◌, ◌<◌, ◌≤◌, ◌++◌, List, [], ◌∷◌, length, drop, slice_get, Some, None, Ok, Err, true, false, ◌==◌, refl, ap, sym, ◌∙◌, arith, inl, inr}
-use Rattle.std.specs.Prelude.{option_to_list}
+use Rattle.std.proofs.Common.{◌≡◌, ℕ, zero, suc, ◌+◌, ◌-◌, ◌<◌, ◌≤◌, ◌++◌, List, [], ◌∷◌, length, drop, slice_get, Some, Ok, Err, true, false, refl, ap, sym, ◌∙◌, arith, inl, inr}
 use Rattle.std.proofs.lemmas.Bool.{cases_Bool, eq-eqb}
 use Rattle.std.proofs.lemmas.Grind.{common_steps}
 use Rattle.tm_marker.specs.Order.{marker_lt}
@@ -10,16 +9,14 @@ use Rattle.tm_marker.specs.declared.marker.Marker.{Marker}
 use Rattle.tm_marker.specs.declared.entries.OutputEntry.{OutputEntry}
 use Rattle.tm_ring.specs.Kept.{Kept, first_of, item_of}
 use Rattle.tm_log.specs.Points.{items_from}
-use Rattle.tm_task.specs.Exec.{Exec, Calls, Faults, exec}
+use Rattle.tm_task.specs.Exec.{Calls, exec}
 use Rattle.tm_task.specs.Place.{Place, output_of}
 use Rattle.tm_task.specs.Standing.{Standing, TaskView, answered, reply, begins_epoch, is_end, marker_of}
 use Rattle.tm_task.specs.Stepped.{Went}
-use Rattle.tm_task.specs.declared.outcome.Cause.{Cause}
 use Rattle.tm_system.specs.declared.diverged.Why.{Why}
-use Rattle.tm_system.specs.declared.diverged.Why.TheVariants.{Faulted, NoEntry, OtherService}
-use Rattle.tm_system.specs.Alone.{Alone, Walk, Comes, Sticks, next_or_why, walk_to, height}
+use Rattle.tm_system.specs.Alone.{Alone, Comes, Sticks, next_or_why, walk_to, height}
 use Rattle.tm_system.specs.ReplayLaws.{IsWalker}
-use Rattle.tm_system.proofs.Walking.{next_ran, next_no_entry, next_other, next_answered, walks_end, walks_go_on, walks_stick, rises, lower}
+use Rattle.tm_system.proofs.Walking.{next_ran, next_answered, walks_end, walks_go_on, walks_stick, rises, lower}
 use Rattle.tm_replay.specs.declared.walker.Walker.{Walker}
 use Rattle.tm_replay.specs.Walking.{alone_of, place_of}
 

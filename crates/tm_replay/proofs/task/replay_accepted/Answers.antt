@@ -1,8 +1,7 @@
-use Rattle.std.proofs.Common.{◌≡◌, ◌+◌, ◌^◌, ◌<◌, ◌==◌, cond, Some, Err, Ok, length, slice_get, ap, sym, subst, ◌∙◌, arith, refl}
+use Rattle.std.proofs.Common.{◌≡◌, ◌+◌, ◌<◌, Some, Err, Ok, length, slice_get, ap, sym, subst, ◌∙◌, refl}
 use Rattle.std.specs.Prelude.{unwrap_or}
 use Rattle.std.proofs.lemmas.Option.{slice_get_within}
 use Rattle.std.proofs.lemmas.Result.{err_from_is_err_and}
-use Rattle.tm_marker.specs.declared.marker.Marker.{Marker}
 use Rattle.tm_marker.specs.declared.entries.Switch.{Switch}
 use Rattle.tm_marker.specs.declared.tail.Tail.{Tail}
 use Rattle.tm_ring.specs.Kept.{Kept}
@@ -14,7 +13,7 @@ use Rattle.tm_system.specs.Tracing.{On, meet}
 use Rattle.tm_task.specs.Place.{Place, start_place}
 use Rattle.tm_replay.specs.Meeting.{tracing_of}
 use Rattle.tm_replay.specs.Starting.{check_at}
-use Rattle.tm_replay.specs.Walking.{alone_of, place_of, Reached}
+use Rattle.tm_replay.specs.Walking.{alone_of, Reached}
 use Rattle.tm_replay.proofs.Starts.{start_kept}
 use Rattle.tm_replay.proofs.Replays.{task_kept, entries_kept, start_epoch, last_epoch, leaves_below, by_walker, tells_start, tells_entries, tells_end, on_end, began, entries_met, end_met, end_told, entries_of, end_of}
 use Rattle.tm_replay.proofs.task.replay_accepted.Goals as goal

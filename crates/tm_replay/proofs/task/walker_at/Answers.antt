@@ -2,7 +2,7 @@ use Rattle.std.proofs.Common.{◌≡◌, ◌%◌, ◌<◌, ◌≤◌, length, ap
 use Rattle.tm_marker.specs.declared.body.Body.{Body}
 use Rattle.tm_image.specs.Image.{shape_of}
 use Rattle.tm_task.specs.Standing.{TaskView}
-use Rattle.tm_replay.proofs.Starts.{IsFound, found, starts_at}
+use Rattle.tm_replay.proofs.Starts.{found, starts_at}
 use Rattle.tm_replay.proofs.task.walker_at.Goals as goal
 
 pub new-requires-2-clause-some : goal.new-requires-2-clause-some

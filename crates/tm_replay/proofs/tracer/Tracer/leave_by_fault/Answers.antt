@@ -1,4 +1,4 @@
-use Rattle.std.proofs.Common.{◌≡◌, true, ap, sym, subst, ◌∙◌, Err, Ok}
+use Rattle.std.proofs.Common.{true, ap, sym, subst, ◌∙◌, Err, Ok}
 use Rattle.std.proofs.lemmas.Result.{err_from_is_err_and}
 use Rattle.tm_task.specs.Place.{Place}
 use Rattle.tm_system.specs.Alone.{Alone}

@@ -1,4 +1,4 @@
-use Rattle.std.proofs.Common.{ap, ◌∙◌, refl}
+use Rattle.std.proofs.Common.{ap, refl}
 use Rattle.tm_system.specs.Tracing.{On, meet}
 use Rattle.tm_replay.specs.Meeting.{tracing_of}
 use Rattle.tm_replay.specs.Walking.{alone_of}
