@@ -3,12 +3,13 @@
 pub const VERSION: &str = "tm 0.1.0\n";
 
 pub const HELP: &str = "\
-tm runs preemptive control software, and prints or records what it did.
+tm runs preemptive control software, prints or records what it did, and tells from where a record can be replayed.
 
-    tm trace IMAGE PLAN         prints the whole run of the plan on the image, from boot
-    tm record IMAGE PLAN DUMP   puts the dump of that run's buffers, and prints nothing
-    tm --help                   prints this
-    tm --version                prints the version
+    tm trace IMAGE PLAN             prints the whole run of the plan on the image, from boot
+    tm record IMAGE PLAN DUMP       puts the dump of that run's buffers, and prints nothing
+    tm points IMAGE DUMP            prints the points from which the dump can be replayed
+    tm --help                       prints this
+    tm --version                    prints the version
 
 IMAGE, PLAN and DUMP are names of files. A name isn't empty and doesn't begin with a dash.
 A status other than 0 is told by one line on standard error.
@@ -18,6 +19,7 @@ A status other than 0 is told by one line on standard error.
     3   a file can't be read
     4   the image is refused, by its first bad line
     5   the plan is refused, by its first bad line
+    6   the dump is refused: it is no dump of a run of the image
     9   standard output takes no more bytes, or the dump can't be put
     10  the first or the second file is longer than its limit
     11  there is not enough memory

@@ -43,6 +43,7 @@ fn run(rt: &HostRuntime) -> Status {
         };
     }
     tm(
+        rt,
         rt.alloc(),
         &words,
         &mut FileShelf::new(rt),

@@ -6,3 +6,5 @@ pub mod Traced
 pub mod Delivering
 pub mod Answering
 pub mod Consequences
+pub mod ToldRuns
+pub mod RunEnds

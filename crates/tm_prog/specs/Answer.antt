@@ -3,15 +3,17 @@ use Rattle.std.specs.Prelude.{ℕ, List, Option, Some, None, Result, Err}
 use Rattle.tm_prog.specs.declared.status.Status.{Status}
 use Rattle.tm_prog.specs.declared.status.Status.TheVariants.{Words}
 use Rattle.tm_prog.specs.declared.command.Command.{Command}
-use Rattle.tm_prog.specs.declared.command.Command.TheVariants.{Trace, Record}
+use Rattle.tm_prog.specs.declared.command.Command.TheVariants.{Trace, Record, Points}
 use Rattle.tm_prog.specs.Made.{MadeView}
-use Rattle.tm_prog.specs.TraceCommand.{trace_of}
-use Rattle.tm_prog.specs.RecordCommand.{record_of}
+use Rattle.tm_prog.specs.TraceCommand.{trace_made}
+use Rattle.tm_prog.specs.RecordCommand.{record_made}
+use Rattle.tm_prog.specs.PointsCommand.{points_made}
 
 -- the answer to a command over the contents of files by name, where the files that it needs are there
 abbrev pub made_of : Command → (List ℕ → Option (List ℕ)) → Option (Result MadeView Status)
-made_of (Trace image plan) content = trace_of content image plan
-made_of (Record image plan dump) content = record_of content image plan dump
+made_of (Trace image plan) content = trace_made content image plan
+made_of (Record image plan dump) content = record_made content image plan dump
+made_of (Points image dump) content = points_made content image dump
 
 -- the answer to the words of a call; words of no form are refused
 abbrev pub answer_of : Option Command → (List ℕ → Option (List ℕ)) → Option (Result MadeView Status)

@@ -1,36 +1,50 @@
 -- What the words of a call ask for.
-use Rattle.std.specs.Prelude.{◌≡◌, ℕ, Bool, true, false, not, ◌&&◌, ◌==◌, if◌then◌else◌, List, [], ◌∷◌, map, codes, bytes_eq, String, string_bytes, Option, Some, None}
-use Rattle.std.specs.declared.alloc.Global.{Global}
+use Rattle.std.specs.Prelude.{◌≡◌, ℕ, Bool, true, false, ◌&&◌, if◌then◌else◌, List, [], ◌∷◌, map, Option, Some, None, option_and_then}
+use Rattle.tm_prog.specs.declared.words.Kind.{Kind}
+use Rattle.tm_prog.specs.declared.words.Kind.TheVariants as kind
 use Rattle.tm_prog.specs.declared.command.Command.{Command}
-use Rattle.tm_prog.specs.declared.command.Command.TheVariants.{Trace, Record}
+use Rattle.tm_prog.specs.declared.command.Command.TheVariants.{Trace, Record, Points}
+use Rattle.tm_prog.specs.Words.{kind_of, is_name}
 use Rattle.tm_prog.specs.Made.{MadeView}
 
--- the bytes of each word
-abbrev pub texts : List (String Global) → List (List ℕ)
-texts words = map string_bytes words
+-- trace IMAGE PLAN
+abbrev pub trace_asked : List (List ℕ) → Option Command
+trace_asked (image ∷ plan ∷ []) = if is_name image && is_name plan then Some (Trace image plan) else None
+trace_asked _ = None
 
--- a name is not empty, and does not begin with a dash
-abbrev pub is_name : List ℕ → Bool
-is_name [] = false
-is_name (first ∷ rest) = not (first == 45)
+-- record IMAGE PLAN DUMP
+abbrev pub record_asked : List (List ℕ) → Option Command
+record_asked (image ∷ plan ∷ dump ∷ []) =
+    if is_name image && is_name plan && is_name dump then Some (Record image plan dump) else None
+record_asked _ = None
 
--- the command that the words are a form of: `trace IMAGE PLAN` or `record IMAGE PLAN DUMP`
-abbrev pub command_of : List (List ℕ) → Option Command
-command_of (word ∷ image ∷ plan ∷ []) =
-    if bytes_eq word (codes "trace") && is_name image && is_name plan then Some (Trace image plan) else None
-command_of (word ∷ image ∷ plan ∷ dump ∷ []) =
-    if bytes_eq word (codes "record") && is_name image && is_name plan && is_name dump then Some (Record image plan dump) else None
-command_of _ = None
+-- points IMAGE DUMP
+abbrev pub points_asked : List (List ℕ) → Option Command
+points_asked (image ∷ dump ∷ []) = if is_name image && is_name dump then Some (Points image dump) else None
+points_asked _ = None
+
+-- the command that the words behind the first ask for
+abbrev pub asked : Kind → List (List ℕ) → Option Command
+asked kind.Trace words = trace_asked words
+asked kind.Record words = record_asked words
+asked kind.Points words = points_asked words
+
+-- the command that the words are a form of
+unfoldable pub command_of : List (List ℕ) → Option Command
+command_of [] = None
+command_of (word ∷ words) = option_and_then (λ k. asked k words) (kind_of word)
 
 -- the names that a command puts, in this order
 abbrev pub names_put : Command → List (List ℕ)
 names_put (Trace image plan) = []
 names_put (Record image plan dump) = dump ∷ []
+names_put (Points image dump) = []
 
 -- whether a command prints a text
 abbrev pub prints_text : Command → Bool
 prints_text (Trace image plan) = true
 prints_text (Record image plan dump) = false
+prints_text (Points image dump) = true
 
 -- what was made is put under the names of the command, and has a text only where the command prints one
 pub record IsMadeFor (command : Command) (made : MadeView) : Type 0 where

@@ -1,18 +1,22 @@
 -- What the files of a command say.
 use Rattle.std.specs.Prelude.{ℕ, List, Option, Result, Ok, Err}
+use Rattle.tm_log.specs.Window.{WindowView}
+use Rattle.tm_dump.specs.declared.fault.DumpFault.{DumpFault}
+use Rattle.tm_dump.specs.declared.fault.DumpFault.TheVariants as dump
+use Rattle.tm_dump.specs.Reading.{window_in}
 use Rattle.tm_marker.specs.declared.entries.Slice.{Slice}
 use Rattle.tm_lines.specs.declared.fault.Fault.{Fault}
 use Rattle.tm_lines.specs.declared.fault.Reason.{Reason}
 use Rattle.tm_lines.specs.declared.fault.Reason.TheVariants as reason
-use Rattle.tm_image.specs.Image.{ImageView, image_of}
+use Rattle.tm_image.specs.Image.{ImageView, image_of, shape_of}
 use Rattle.tm_image.specs.Plan.{plan_of}
 use Rattle.tm_prog.specs.declared.status.Status.{Status}
-use Rattle.tm_prog.specs.declared.status.Status.TheVariants.{Image, Plan, Memory}
-use Rattle.tm_prog.specs.declared.limits.TheConstants.{IMAGE_LIMIT, PLAN_LIMIT}
+use Rattle.tm_prog.specs.declared.status.Status.TheVariants.{Image, Plan, Dump, Memory}
+use Rattle.tm_prog.specs.declared.limits.TheConstants.{IMAGE_LIMIT, PLAN_LIMIT, DUMP_LIMIT}
 use Rattle.tm_prog.specs.Reads.{file_in}
 
 -- the value of a text, or its refusal as a status
-abbrev pub said : {A : Type 0} → (Fault → Status) → Result A Fault → Result A Status
+abbrev pub said : {A E : Type 0} → (E → Status) → Result A E → Result A Status
 said refused (Ok value) = Ok value
 said refused (Err fault) = Err (refused fault)
 
@@ -24,6 +28,10 @@ image_said bytes = said Image (image_of bytes)
 abbrev pub script_said : List ℕ → Result (List Slice) Status
 script_said bytes = said Plan (plan_of bytes)
 
+-- the window of the image that bytes are the dump of, or the refusal of the dump
+abbrev pub window_said : ImageView → List ℕ → Result WindowView Status
+window_said image bytes = said Dump (window_in (shape_of image) bytes)
+
 -- the image in the first file
 abbrev pub image_in : Option (List ℕ) → Option (Result ImageView Status)
 image_in file = file_in IMAGE_LIMIT 1 image_said file
@@ -31,6 +39,10 @@ image_in file = file_in IMAGE_LIMIT 1 image_said file
 -- the script in the second file
 abbrev pub script_in : Option (List ℕ) → Option (Result (List Slice) Status)
 script_in file = file_in PLAN_LIMIT 2 script_said file
+
+-- the window of the image in the second file
+abbrev pub window_file_in : ImageView → Option (List ℕ) → Option (Result WindowView Status)
+window_file_in image file = file_in DUMP_LIMIT 2 (window_said image) file
 
 -- the status for an image's text that was refused, or for which there was no memory
 abbrev pub image_status : Fault → Reason → Status
@@ -41,3 +53,8 @@ image_status fault _ = Image fault
 abbrev pub plan_status : Fault → Reason → Status
 plan_status fault reason.Memory = Memory
 plan_status fault _ = Plan fault
+
+-- the same for a dump
+abbrev pub dump_status : DumpFault → Status
+dump_status dump.Memory = Memory
+dump_status fault = Dump fault

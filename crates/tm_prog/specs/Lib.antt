@@ -2,12 +2,15 @@ pub mod Class
 pub mod Status
 pub mod Made
 pub mod Reads
+pub mod Words
 pub mod Command
 pub mod Files
 pub mod TraceCommand
 pub mod RecordCommand
+pub mod PointsCommand
 pub mod Answer
 pub mod World
 pub mod Outcome
+pub mod RunDumps
 pub mod Teller
 pub mod Resting

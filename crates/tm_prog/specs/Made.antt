@@ -13,8 +13,11 @@ pub record MadeView : Type 0 where
   pub text : List ℕ
 
 -- a text alone
+abbrev pub text_alone : List ℕ → MadeView
+text_alone text = record { puts = []; text = text }
+
 abbrev pub prints : List ℕ → Option (Result MadeView Status)
-prints text = Some (Ok (record { puts = []; text = text }))
+prints text = Some (Ok (text_alone text))
 
 -- one put alone
 abbrev pub stores : List ℕ → List ℕ → Option (Result MadeView Status)

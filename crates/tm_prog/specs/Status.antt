@@ -3,6 +3,8 @@ use Rattle.std.specs.Prelude.{ℕ, Bool, true, false, List, [], ◌∷◌, ◌++
 use Rattle.tm_lines.specs.declared.fault.Fault.{Fault}
 use Rattle.tm_lines.specs.declared.fault.Reason.{Reason}
 use Rattle.tm_lines.specs.declared.fault.Reason.TheVariants as reason
+use Rattle.tm_dump.specs.declared.fault.DumpFault.{DumpFault}
+use Rattle.tm_dump.specs.declared.fault.DumpFault.TheVariants as dump
 use Rattle.tm_prog.specs.declared.status.Status.{Status}
 use Rattle.tm_prog.specs.declared.status.Status.TheVariants as status
 
@@ -13,6 +15,7 @@ code_of status.Words = 2
 code_of status.ReadFault = 3
 code_of (status.Image fault) = 4
 code_of (status.Plan fault) = 5
+code_of (status.Dump fault) = 6
 code_of status.WriteFault = 9
 code_of (status.TooLong file) = 10
 code_of status.Memory = 11
@@ -32,6 +35,16 @@ abbrev pub refusal_line : List ℕ → Fault → List ℕ
 refusal_line kind fault =
     codes "tm: " ++ kind ++ codes " line " ++ decimal fault.line ++ codes " " ++ reason_name fault.reason ++ 10 ∷ []
 
+-- what is wrong with a dump
+abbrev pub dump_text : DumpFault → List ℕ
+dump_text dump.Magic = codes "magic"
+dump_text (dump.Version version) = codes "version " ++ decimal version
+dump_text (dump.Digest found computed) = codes "digest"
+dump_text (dump.OtherImage found wanted) = codes "other image"
+dump_text (dump.Field place) = codes "field " ++ decimal place
+dump_text (dump.Extra place) = codes "extra " ++ decimal place
+dump_text dump.Memory = codes "memory"
+
 -- the line on standard error; Ok has none
 abbrev pub line_of : Status → List ℕ
 line_of status.Ok = []
@@ -39,14 +52,16 @@ line_of status.Words = codes "tm: words" ++ 10 ∷ []
 line_of status.ReadFault = codes "tm: read fault" ++ 10 ∷ []
 line_of (status.Image fault) = refusal_line (codes "image") fault
 line_of (status.Plan fault) = refusal_line (codes "plan") fault
+line_of (status.Dump fault) = codes "tm: dump " ++ dump_text fault ++ 10 ∷ []
 line_of (status.TooLong file) = codes "tm: too long " ++ decimal file ++ 10 ∷ []
 line_of status.WriteFault = codes "tm: write fault" ++ 10 ∷ []
 line_of status.Memory = codes "tm: memory" ++ 10 ∷ []
 
--- the line has a number in it
+-- the line has a number in it, or may have one
 abbrev pub is_numbered : Status → Bool
 is_numbered (status.Image fault) = true
 is_numbered (status.Plan fault) = true
+is_numbered (status.Dump fault) = true
 is_numbered (status.TooLong file) = true
 is_numbered status.Ok = false
 is_numbered status.Words = false

@@ -1,8 +1,10 @@
-//! How the words of a call are read.
+//! What the words of a call ask for.
 
 ghost use Rattle.std.specs.Prelude.{◌≡◌};
-ghost use Rattle.tm_prog.specs.Command.{command_of, is_name, texts};
+ghost use Rattle.tm_prog.specs.Words.{texts};
+ghost use Rattle.tm_prog.specs.Command.{command_of, asked, trace_asked, record_asked, points_asked};
 
+use crate::words::{Kind, is_name, kind_of};
 use std::marker::Model;
 
 /// The name of a file, as a word of the call gives it.
@@ -47,26 +49,61 @@ pub(crate) enum Command<'a> {
         plan: Name<'a>,
         dump: Name<'a>,
     },
+    /// The points from which a dump of an image can be replayed.
+    Points {
+        image: Name<'a>,
+        dump: Name<'a>,
+    },
 }
 
-/// The command that the words are a form of. A first word that is no command, a missing or surplus word and
-/// a word that is no name leave none.
+/// The command that the words are a form of. A first word that is no command, a missing or surplus word and a
+/// word that is no name leave none.
+#[tactic(auto, unfolding(crate::specs::Command::command_of))]
 pub(crate) fn command_of(words: &[String]) -> Option<Command<'_>>
     ensures { result ≡ command_of (texts words.now) }
 {
     match words {
-        [word, image, plan]
-            if word.as_str() == "trace" && is_name(image.as_str()) && is_name(plan.as_str()) => {
+        [] => None,
+        [word, rest @ ..] => match kind_of(word.as_str()) {
+            Some(kind) => asked(kind, rest),
+            None => None,
+        },
+    }
+}
+
+/// The command that the words behind the first ask for.
+fn asked(kind: Kind, words: &[String]) -> Option<Command<'_>>
+    ensures { result ≡ asked kind (texts words.now) }
+{
+    match kind {
+        Kind::Trace => trace_asked(words),
+        Kind::Record => record_asked(words),
+        Kind::Points => points_asked(words),
+    }
+}
+
+/// `trace IMAGE PLAN`
+fn trace_asked(words: &[String]) -> Option<Command<'_>>
+    ensures { result ≡ trace_asked (texts words.now) }
+{
+    match words {
+        [image, plan] if is_name(image.as_str()) && is_name(plan.as_str()) => {
             Some(Command::Trace {
                 image: Name::new(image.as_str()),
                 plan: Name::new(plan.as_str()),
             })
         }
-        [word, image, plan, dump]
-            if word.as_str() == "record"
-                && is_name(image.as_str())
-                && is_name(plan.as_str())
-                && is_name(dump.as_str()) => {
+        _ => None,
+    }
+}
+
+/// `record IMAGE PLAN DUMP`
+fn record_asked(words: &[String]) -> Option<Command<'_>>
+    ensures { result ≡ record_asked (texts words.now) }
+{
+    match words {
+        [image, plan, dump]
+            if is_name(image.as_str()) && is_name(plan.as_str()) && is_name(dump.as_str()) => {
             Some(Command::Record {
                 image: Name::new(image.as_str()),
                 plan: Name::new(plan.as_str()),
@@ -77,12 +114,17 @@ pub(crate) fn command_of(words: &[String]) -> Option<Command<'_>>
     }
 }
 
-/// Whether the word names a file: it isn't empty, and doesn't begin with a dash.
-fn is_name(word: &str) -> bool
-    ensures { result ≡ is_name word.now }
+/// `points IMAGE DUMP`
+fn points_asked(words: &[String]) -> Option<Command<'_>>
+    ensures { result ≡ points_asked (texts words.now) }
 {
-    match word.as_bytes() {
-        [] => false,
-        [first, ..] => *first != b'-',
+    match words {
+        [image, dump] if is_name(image.as_str()) && is_name(dump.as_str()) => {
+            Some(Command::Points {
+                image: Name::new(image.as_str()),
+                dump: Name::new(dump.as_str()),
+            })
+        }
+        _ => None,
     }
 }

@@ -5,6 +5,7 @@ ghost use Rattle.tm_prog.specs.Answer.{made_of};
 ghost use Rattle.tm_prog.specs.Command.{IsMadeFor};
 ghost use Rattle.tm_prog.specs.Reads.{Reads};
 
+mod points;
 mod record;
 mod trace;
 
@@ -12,10 +13,12 @@ use crate::Status;
 use crate::command::Command;
 use crate::made::Made;
 use std::alloc::Global;
+use std::thread::Threads;
 use tm_io::Shelf;
 
 /// What the command makes.
 pub(crate) fn made_of<'a, F: Shelf>(
+    rt: &(impl Threads + Sync),
     alloc: Global,
     shelf: &mut F,
     command: &Command<'a>,
@@ -26,5 +29,6 @@ pub(crate) fn made_of<'a, F: Shelf>(
     match command {
         Command::Trace { image, plan } => trace::trace(alloc, shelf, image, plan),
         Command::Record { image, plan, dump } => record::record(alloc, shelf, image, plan, dump),
+        Command::Points { image, dump } => points::points(rt, alloc, shelf, image, dump),
     }
 }

@@ -2,15 +2,17 @@
 
 ghost use Rattle.std.specs.Prelude.{◌≡◌, ℕ, ◌^◌, ◌<◌, ◌≤◌, List, Result, length, IfOk};
 ghost use Rattle.tm_prog.specs.declared.status.Status.{Status};
-ghost use Rattle.tm_prog.specs.Files.{image_status, plan_status};
+ghost use Rattle.tm_prog.specs.Files.{image_status, plan_status, dump_status};
 ghost use Rattle.tm_prog.specs.Reads.{CanRefuse, Reads, Says, file_in};
 
 use crate::Status;
 use crate::command::Name;
-use crate::limits::{IMAGE_LIMIT, PLAN_LIMIT};
+use crate::limits::{DUMP_LIMIT, IMAGE_LIMIT, PLAN_LIMIT};
 use std::alloc::Global;
+use tm_dump::{DumpFault, read_dump};
 use tm_image::{Image, ImageFault, Plan, PlanFault, Reason, read_image, read_plan};
 use tm_io::{GetFault, Shelf};
+use tm_log::Window;
 
 /// A kind of file: how long one may be, and what its bytes say, beside what was read before it.
 pub(crate) trait FileKind<C> {
@@ -51,6 +53,16 @@ fn plan_status(fault: PlanFault) -> Status
     }
 }
 
+/// The status for a dump that was not read.
+fn dump_status(fault: DumpFault) -> Status
+    ensures { result ≡ dump_status fault }
+{
+    match fault {
+        DumpFault::Memory => Status::Memory,
+        _ => Status::Dump(fault),
+    }
+}
+
 impl FileKind<()> for Image {
     ghost use Rattle.tm_image.specs.Image.{IsImage};
     ghost use Rattle.tm_prog.specs.declared.limits.TheConstants.{IMAGE_LIMIT};
@@ -84,6 +96,24 @@ impl FileKind<()> for Plan {
 
     fn read(alloc: Global, _beside: &(), bytes: &[u8]) -> Result<Plan, Status> {
         read_plan(alloc, bytes).map_err(plan_status)
+    }
+}
+
+// A dump is read beside its image.
+impl FileKind<Image> for Window {
+    ghost use Rattle.tm_prog.specs.declared.limits.TheConstants.{DUMP_LIMIT};
+    ghost use Rattle.tm_prog.specs.Files.{window_said};
+
+    ghost LIMIT = { DUMP_LIMIT };
+
+    const LIMIT: u64 = DUMP_LIMIT;
+
+    ghost reading = { window_said };
+
+    ghost sound = { λ _. Unit {0} };
+
+    fn read(alloc: Global, image: &Image, bytes: &[u8]) -> Result<Window, Status> {
+        read_dump(alloc, bytes, image).map_err(dump_status)
     }
 }
 

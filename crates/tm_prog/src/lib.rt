@@ -5,14 +5,18 @@
 //! on standard error.
 #![tactic(auto)]
 
-ghost use Rattle.std.specs.Prelude.{◌≡◌, ◌≢◌, ◌↔◌, Some, None, Ok, IsTrue};
+ghost use Rattle.std.specs.Prelude.{◌≡◌, ◌≢◌, ◌↔◌, List, Some, None, Ok, IsTrue};
+ghost use Rattle.tm_marker.specs.declared.entries.Slice.{Slice};
+ghost use Rattle.tm_image.specs.Image.{ImageView};
 ghost use Rattle.tm_prog.specs.declared.status.Status.{Status};
 ghost use Rattle.tm_prog.specs.Class.{class_of};
 ghost use Rattle.tm_prog.specs.Made.{MadeView};
 ghost use Rattle.tm_prog.specs.Reads.{CanRefuse};
-ghost use Rattle.tm_prog.specs.Command.{command_of, texts};
+ghost use Rattle.tm_prog.specs.Words.{texts};
+ghost use Rattle.tm_prog.specs.Command.{command_of};
 ghost use Rattle.tm_prog.specs.Answer.{answer_of};
 ghost use Rattle.tm_prog.specs.World.{world, IsReady};
+ghost use Rattle.tm_prog.specs.RunDumps.{IsListOf, ListsRun};
 ghost use Rattle.tm_prog.specs.Outcome.{Ends, Counts, Stays, OthersStay, IsSilent, IsDone, NoneRose};
 
 mod command;
@@ -27,13 +31,15 @@ mod status;
 mod teller;
 mod trace;
 mod views;
+mod words;
 
 use command::command_of;
 use commands::made_of;
 use deliver::deliver;
-pub use limits::{IMAGE_LIMIT, PLAN_LIMIT, limits_are};
+pub use limits::{DUMP_LIMIT, IMAGE_LIMIT, PLAN_LIMIT, limits_are};
 pub use status::Status;
 use std::alloc::Global;
+use std::thread::Threads;
 use tm_io::{Shelf, Sink};
 
 /// Does what the words ask for: gets the files that they name, puts what is to be put, and writes the text
@@ -42,7 +48,13 @@ use tm_io::{Shelf, Sink};
 /// The words are read first, then each file is got and read in turn, then all that is to be put and written
 /// is made, and then it is put and written. The first of these that fails is answered. Want of memory never
 /// comes after the first put or write.
-pub fn tm<F: Shelf, K: Sink>(alloc: Global, words: &[String], shelf: &mut F, out: &mut K) -> Status
+pub fn tm<F: Shelf, K: Sink>(
+    rt: &(impl Threads + Sync),
+    alloc: Global,
+    words: &[String],
+    shelf: &mut F,
+    out: &mut K,
+) -> Status
     // The words alone decide whether they are refused.
     ensures words { (result ≡ Status.Words) ↔ (command_of (texts words.now) ≡ None) }
     ensures answer { Ends (class_of result) result (command_of (texts words.now))
@@ -58,6 +70,11 @@ pub fn tm<F: Shelf, K: Sink>(alloc: Global, words: &[String], shelf: &mut F, out
         IsReady made (world (F.seen shelf.old) (K.seen out.old)) →
         IsDone result }
 
+    // On the dump of a run, `points` lists exactly the points from which the run can be replayed.
+    ensures lists { (image : ImageView) (script : List Slice) → IsTrue (F.seen shelf.old).tells →
+        IsListOf (command_of (texts words.now)) (F.seen shelf.old).content image script →
+        ListsRun result image script (world (F.seen shelf.old) (K.seen out.old)) (world (F.seen shelf.new) (K.seen out.new)) }
+
     // What follows for every shelf and sink, also where nothing is told.
     ensures counts { Counts (class_of result) (world (F.seen shelf.old) (K.seen out.old)) (world (F.seen shelf.new) (K.seen out.new)) }
     ensures stays { Stays (world (F.seen shelf.old) (K.seen out.old)) (world (F.seen shelf.new) (K.seen out.new)) }
@@ -69,11 +86,12 @@ pub fn tm<F: Shelf, K: Sink>(alloc: Global, words: &[String], shelf: &mut F, out
     ensures unwritten { IsSilent (command_of (texts words.now)) → out.new ≡ out.old }
     ensures refusals { CanRefuse result }
 {
-    answered(alloc, words, shelf, out)
+    answered(rt, alloc, words, shelf, out)
 }
 
 /// The call, and its plain answer.
 fn answered<F: Shelf, K: Sink>(
+    rt: &(impl Threads + Sync),
     alloc: Global,
     words: &[String],
     shelf: &mut F,
@@ -93,7 +111,7 @@ fn answered<F: Shelf, K: Sink>(
         Some(command) => command,
         None => return Status::Words,
     };
-    let made = match made_of(alloc, shelf, &command) {
+    let made = match made_of(rt, alloc, shelf, &command) {
         Ok(made) => made,
         Err(status) => return status,
     };

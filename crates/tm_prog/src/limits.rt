@@ -8,8 +8,12 @@ pub const IMAGE_LIMIT: u64 = 8 * 1024 * 1024;
 /// The most bytes of a plan's file.
 pub const PLAN_LIMIT: u64 = 128 * 1024 * 1024;
 
+/// The most bytes of a dump's file.
+pub const DUMP_LIMIT: u64 = 128 * 1024 * 1024;
+
 /// What the limits are, as figures: the clauses are the law, and the function does nothing.
 pub fn limits_are()
     ensures image { IMAGE_LIMIT ≡ 8388608 }
     ensures plan { PLAN_LIMIT ≡ 134217728 }
+    ensures dump { DUMP_LIMIT ≡ 134217728 }
 {}

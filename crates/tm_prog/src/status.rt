@@ -5,6 +5,7 @@ ghost use Rattle.tm_prog.specs.declared.status.Status.{Status};
 ghost use Rattle.tm_prog.specs.Status.{code_of, is_numbered, line_of, reason_name, refusal_line};
 
 use std::alloc::AllocError;
+use tm_dump::DumpFault;
 use tm_image::{ImageFault, PlanFault, Reason};
 
 /// How a call of the program ended.
@@ -20,7 +21,9 @@ pub enum Status {
     Image(ImageFault),
     /// The plan's text is refused, by its first bad line.
     Plan(PlanFault),
-    /// The text could not be written.
+    /// The bytes are no dump of a window of the image that a run could have left.
+    Dump(DumpFault),
+    /// The text could not be written, or a file could not be put.
     WriteFault,
     /// The file with this number, from 1, is longer than its limit.
     TooLong(u8),
@@ -39,6 +42,7 @@ impl Status {
             Status::ReadFault => 3,
             Status::Image(_) => 4,
             Status::Plan(_) => 5,
+            Status::Dump(_) => 6,
             Status::WriteFault => 9,
             Status::TooLong(_) => 10,
             Status::Memory => 11,
@@ -56,7 +60,7 @@ impl Status {
             Status::ReadFault => Some(b"tm: read fault\n"),
             Status::WriteFault => Some(b"tm: write fault\n"),
             Status::Memory => Some(b"tm: memory\n"),
-            Status::Image(_) | Status::Plan(_) | Status::TooLong(_) => None,
+            Status::Image(_) | Status::Plan(_) | Status::Dump(_) | Status::TooLong(_) => None,
         }
     }
 
@@ -68,6 +72,7 @@ impl Status {
         match self {
             Status::Image(fault) => refusal_line("image", fault, into),
             Status::Plan(fault) => refusal_line("plan", fault, into),
+            Status::Dump(fault) => dump_line(fault, into),
             Status::TooLong(file) => too_long_line(*file, into),
             _ => into.extend_from_slice(self.fixed_line().unwrap_or_default()),
         }
@@ -82,6 +87,24 @@ fn refusal_line(kind: &str, fault: &ImageFault, into: &mut Vec<u8>) -> Result<()
     let alloc = *into.allocator();
     let reason = reason_name(fault.reason);
     let line = format!(in alloc; "tm: {kind} line {} {reason}\n", fault.line)?;
+    into.extend_from_slice(line.as_bytes())
+}
+
+/// Appends the line of [`Status::Dump`].
+fn dump_line(fault: &DumpFault, into: &mut Vec<u8>) -> Result<(), AllocError>
+    ensures ok { OnOk result (into.new.items ≡ into.old.items ++ line_of (Status.Dump fault.now)) }
+    ensures err { OnErr result (into.new.items ≡ into.old.items) }
+{
+    let alloc = *into.allocator();
+    let line = match fault {
+        DumpFault::Magic => return into.extend_from_slice(b"tm: dump magic\n"),
+        DumpFault::Digest { .. } => return into.extend_from_slice(b"tm: dump digest\n"),
+        DumpFault::OtherImage { .. } => return into.extend_from_slice(b"tm: dump other image\n"),
+        DumpFault::Memory => return into.extend_from_slice(b"tm: dump memory\n"),
+        DumpFault::Version(version) => format!(in alloc; "tm: dump version {version}\n")?,
+        DumpFault::Field { place } => format!(in alloc; "tm: dump field {place}\n")?,
+        DumpFault::Extra { place } => format!(in alloc; "tm: dump extra {place}\n")?,
+    };
     into.extend_from_slice(line.as_bytes())
 }
 

@@ -46,15 +46,23 @@ fn words(alloc: Global, line: &str) -> Result<Vec<String>, AllocError> {
 }
 
 /// What the words answer over a shelf of the image and the plan.
-fn answered(alloc: Global, line: &str, out: &mut MemSink) -> Result<Status, AllocError> {
+fn answered(
+    rt: &(impl Threads + Sync),
+    alloc: Global,
+    line: &str,
+    out: &mut MemSink,
+) -> Result<Status, AllocError> {
     let words = words(alloc, line)?;
-    Ok(tm(alloc, words.as_slice(), &mut shelf(alloc)?, out))
+    Ok(tm(rt, alloc, words.as_slice(), &mut shelf(alloc)?, out))
 }
 
 #[test]
 fn the_smallest_run_is_printed(rt: HostRuntime) -> Result<(), Fail> {
     let mut out = sink(rt.alloc(), &[])?;
-    assert_eq!(rt; answered(rt.alloc(), "trace i p", &mut out)?, Status::Ok);
+    assert_eq!(rt;
+        answered(&rt, rt.alloc(), "trace i p", &mut out)?,
+        Status::Ok
+    );
     assert_eq!(rt; out.bytes(), TEXT);
     Ok(())
 }
@@ -63,7 +71,7 @@ fn the_smallest_run_is_printed(rt: HostRuntime) -> Result<(), Fail> {
 fn a_failing_write_leaves_a_beginning(rt: HostRuntime) -> Result<(), Fail> {
     let mut out = sink(rt.alloc(), &[3])?;
     assert_eq!(rt;
-        answered(rt.alloc(), "trace i p", &mut out)?,
+        answered(&rt, rt.alloc(), "trace i p", &mut out)?,
         Status::WriteFault
     );
     assert_eq!(rt; out.bytes(), b"start 0 -\ntask".as_slice());
@@ -78,7 +86,7 @@ fn the_dump_of_a_run_is_put_and_nothing_printed(rt: HostRuntime) -> Result<(), F
     let mut out = sink(alloc, &[])?;
     let words = words(alloc, "record i p d")?;
     assert_eq!(rt;
-        tm(alloc, words.as_slice(), &mut shelf, &mut out),
+        tm(&rt, alloc, words.as_slice(), &mut shelf, &mut out),
         Status::Ok
     );
     let dump = shelf.content("d").expect(&rt, "the dump");
@@ -93,10 +101,25 @@ fn the_dump_of_a_run_is_put_and_nothing_printed(rt: HostRuntime) -> Result<(), F
 }
 
 #[test]
+fn the_points_of_a_dump_are_listed(rt: HostRuntime) -> Result<(), Fail> {
+    let alloc = rt.alloc();
+    let mut shelf = shelf(alloc)?;
+    shelf.room("d", 508)?;
+    let mut out = sink(alloc, &[])?;
+    for line in ["record i p d", "points i d"] {
+        let words = words(alloc, line)?;
+        let status = tm(&rt, alloc, words.as_slice(), &mut shelf, &mut out);
+        assert_eq!(rt; status, Status::Ok, "{line}");
+    }
+    assert_eq!(rt; out.bytes(), b"0\n1\n2\n".as_slice());
+    Ok(())
+}
+
+#[test]
 fn a_dump_without_room_is_a_write_fault(rt: HostRuntime) -> Result<(), Fail> {
     let mut out = sink(rt.alloc(), &[])?;
     assert_eq!(rt;
-        answered(rt.alloc(), "record i p d", &mut out)?,
+        answered(&rt, rt.alloc(), "record i p d", &mut out)?,
         Status::WriteFault
     );
     Ok(())
@@ -105,28 +128,31 @@ fn a_dump_without_room_is_a_write_fault(rt: HostRuntime) -> Result<(), Fail> {
 #[test]
 fn refusals_print_nothing(rt: HostRuntime) -> Result<(), Fail> {
     let mut out = sink(rt.alloc(), &[])?;
-    assert_eq!(rt; answered(rt.alloc(), "trace i", &mut out)?, Status::Words);
     assert_eq!(rt;
-        answered(rt.alloc(), "record i p", &mut out)?,
+        answered(&rt, rt.alloc(), "trace i", &mut out)?,
         Status::Words
     );
     assert_eq!(rt;
-        answered(rt.alloc(), "trace i -p", &mut out)?,
+        answered(&rt, rt.alloc(), "record i p", &mut out)?,
         Status::Words
     );
     assert_eq!(rt;
-        answered(rt.alloc(), "trace i none", &mut out)?,
+        answered(&rt, rt.alloc(), "trace i -p", &mut out)?,
+        Status::Words
+    );
+    assert_eq!(rt;
+        answered(&rt, rt.alloc(), "trace i none", &mut out)?,
         Status::ReadFault
     );
     assert_eq!(rt;
-        answered(rt.alloc(), "trace p none", &mut out)?,
+        answered(&rt, rt.alloc(), "trace p none", &mut out)?,
         Status::Image(ImageFault {
             line: 1,
             reason: Reason::Form
         })
     );
     assert_eq!(rt;
-        answered(rt.alloc(), "trace i i", &mut out)?,
+        answered(&rt, rt.alloc(), "trace i i", &mut out)?,
         Status::Plan(PlanFault {
             line: 1,
             reason: Reason::Form

@@ -1,6 +1,7 @@
 //! A call of `tm` over an image and a plan in memory.
 
 use std::alloc::{AllocError, Global};
+use std::thread::Threads;
 use tm_io::{MemShelf, MemSink};
 use tm_prog::{Status, tm};
 
@@ -28,9 +29,10 @@ pub fn shelf(
 
 /// `trace i p` on the shelf, into the sink.
 pub fn trace(
+    rt: &(impl Threads + Sync),
     alloc: Global,
     shelf: &mut MemShelf,
     sink: &mut MemSink,
 ) -> Result<Status, AllocError> {
-    Ok(tm(alloc, &words(alloc, &["trace", "i", "p"])?, shelf, sink))
+    Ok(tm(rt, alloc, &words(alloc, &["trace", "i", "p"])?, shelf, sink))
 }

@@ -16,7 +16,7 @@ const LENGTH: usize = 172;
 #[test]
 fn words_of_no_form_are_refused(rt: HostRuntime) -> Result<(), Fail> {
     let alloc = rt.alloc();
-    let cases: [&[&str]; 12] = [
+    let cases: [&[&str]; 15] = [
         &[],
         &["trace"],
         &["trace", "a"],
@@ -28,12 +28,15 @@ fn words_of_no_form_are_refused(rt: HostRuntime) -> Result<(), Fail> {
         &["record", "a", "b", "c", "d"],
         &["record", "a", "b", "-"],
         &["record", "a", "b", ""],
+        &["points", "a"],
+        &["points", "a", "b", "c"],
+        &["points", "a", "b", "--from", "1"],
         &["--help"],
     ];
     for case in cases {
         let mut shelf = shelf(alloc, IMAGE, PLAN, &[])?;
         let mut sink = MemSink::new(alloc, 64, &[])?;
-        let status = tm(alloc, &words(alloc, case)?, &mut shelf, &mut sink);
+        let status = tm(&rt, alloc, &words(alloc, case)?, &mut shelf, &mut sink);
         assert_eq!(rt; status, Status::Words, "{case:?}");
         assert!(rt; sink.bytes().is_empty());
     }
@@ -83,7 +86,7 @@ fn texts_are_refused_by_line_and_reason(rt: HostRuntime) -> Result<(), Fail> {
     for (image, plan, wanted) in cases {
         let mut shelf = shelf(alloc, image, plan, &[])?;
         let mut sink = MemSink::new(alloc, 64, &[])?;
-        assert_eq!(rt; trace(alloc, &mut shelf, &mut sink)?, wanted);
+        assert_eq!(rt; trace(&rt, alloc, &mut shelf, &mut sink)?, wanted);
         assert!(rt; sink.bytes().is_empty());
     }
     Ok(())
@@ -95,11 +98,14 @@ fn a_file_past_its_limit_is_too_long(rt: HostRuntime) -> Result<(), Fail> {
     let long = vec![in alloc; b'\n'; 8 * 1024 * 1024 + 1]?;
     let mut sink = MemSink::new(alloc, 64, &[])?;
     let mut past = shelf(alloc, &long, PLAN, &[])?;
-    assert_eq!(rt; trace(alloc, &mut past, &mut sink)?, Status::TooLong(1));
+    assert_eq!(rt;
+        trace(&rt, alloc, &mut past, &mut sink)?,
+        Status::TooLong(1)
+    );
     let full = vec![in alloc; b'\n'; 8 * 1024 * 1024]?;
     let mut within = shelf(alloc, &full, PLAN, &[])?;
     let missing = image(8 * 1024 * 1024 + 1, Reason::Missing);
-    assert_eq!(rt; trace(alloc, &mut within, &mut sink)?, missing);
+    assert_eq!(rt; trace(&rt, alloc, &mut within, &mut sink)?, missing);
     assert!(rt; sink.bytes().is_empty());
     Ok(())
 }
@@ -109,12 +115,18 @@ fn files_that_are_not_there_are_read_faults(rt: HostRuntime) -> Result<(), Fail>
     let alloc = rt.alloc();
     let mut shelf = MemShelf::new(alloc, &[])?;
     let mut sink = MemSink::new(alloc, 64, &[])?;
-    assert_eq!(rt; trace(alloc, &mut shelf, &mut sink)?, Status::ReadFault);
+    assert_eq!(rt;
+        trace(&rt, alloc, &mut shelf, &mut sink)?,
+        Status::ReadFault
+    );
     shelf.add("i", IMAGE)?;
-    assert_eq!(rt; trace(alloc, &mut shelf, &mut sink)?, Status::ReadFault);
+    assert_eq!(rt;
+        trace(&rt, alloc, &mut shelf, &mut sink)?,
+        Status::ReadFault
+    );
     shelf.add("p", PLAN)?;
     sink.room(LENGTH)?;
-    assert_eq!(rt; trace(alloc, &mut shelf, &mut sink)?, Status::Ok);
+    assert_eq!(rt; trace(&rt, alloc, &mut shelf, &mut sink)?, Status::Ok);
     assert_eq!(rt; sink.bytes().len(), LENGTH);
     Ok(())
 }
@@ -134,7 +146,7 @@ fn a_call_that_fails_is_told_and_leaves_a_beginning(rt: HostRuntime) -> Result<(
         let mut shelf = shelf(alloc, IMAGE, PLAN, gets)?;
         let mut sink = MemSink::new(alloc, most, writes)?;
         sink.room(LENGTH)?;
-        assert_eq!(rt; trace(alloc, &mut shelf, &mut sink)?, wanted);
+        assert_eq!(rt; trace(&rt, alloc, &mut shelf, &mut sink)?, wanted);
         assert_eq!(rt; sink.bytes().len(), length);
     }
     Ok(())
@@ -155,7 +167,7 @@ fn a_put_that_fails_is_told_and_leaves_the_other_names(rt: HostRuntime) -> Resul
         shelf.room("d", room)?;
         let mut sink = MemSink::new(alloc, 64, &[])?;
         let words = words(alloc, &["record", "i", "p", "d"])?;
-        assert_eq!(rt; tm(alloc, &words, &mut shelf, &mut sink), wanted);
+        assert_eq!(rt; tm(&rt, alloc, &words, &mut shelf, &mut sink), wanted);
         assert_eq!(rt; shelf.content("i"), Some(IMAGE));
         assert_eq!(rt; shelf.content("p"), Some(PLAN));
         assert!(rt; sink.bytes().is_empty());
@@ -170,7 +182,7 @@ fn a_dump_may_take_the_place_of_a_file_that_was_read(rt: HostRuntime) -> Result<
     shelf.room("i", 508)?;
     let mut sink = MemSink::new(alloc, 64, &[])?;
     let words = words(alloc, &["record", "i", "p", "i"])?;
-    assert_eq!(rt; tm(alloc, &words, &mut shelf, &mut sink), Status::Ok);
+    assert_eq!(rt; tm(&rt, alloc, &words, &mut shelf, &mut sink), Status::Ok);
     assert_eq!(rt; shelf.content("i").map(|bytes| bytes.len()), Some(508));
     Ok(())
 }
@@ -181,7 +193,10 @@ fn a_sink_without_room_is_a_write_fault(rt: HostRuntime) -> Result<(), Fail> {
     let mut shelf = shelf(alloc, IMAGE, PLAN, &[])?;
     let mut sink = MemSink::new(alloc, 64, &[])?;
     sink.room(LENGTH - 1)?;
-    assert_eq!(rt; trace(alloc, &mut shelf, &mut sink)?, Status::WriteFault);
+    assert_eq!(rt;
+        trace(&rt, alloc, &mut shelf, &mut sink)?,
+        Status::WriteFault
+    );
     assert!(rt; sink.bytes().is_empty());
     Ok(())
 }

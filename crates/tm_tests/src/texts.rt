@@ -3,6 +3,7 @@
 use crate::calls::{shelf, trace};
 use std::alloc::Global;
 use std::test::Fail;
+use std::thread::Threads;
 use tm_io::MemSink;
 use tm_prog::Status;
 
@@ -473,11 +474,15 @@ regs x2=10000004 x17=00000002
     },
 ];
 
-fn text_of(alloc: Global, case: &Case) -> Result<Option<Vec<u8>>, Fail> {
+fn text_of(
+    rt: &(impl Threads + Sync),
+    alloc: Global,
+    case: &Case,
+) -> Result<Option<Vec<u8>>, Fail> {
     let mut shelf = shelf(alloc, case.image.as_bytes(), case.plan.as_bytes(), &[])?;
     let mut sink = MemSink::new(alloc, 4096, &[])?;
     sink.room(1 << 16)?;
-    let status = trace(alloc, &mut shelf, &mut sink)?;
+    let status = trace(rt, alloc, &mut shelf, &mut sink)?;
     if status != Status::Ok {
         return Ok(None);
     }
@@ -487,7 +492,7 @@ fn text_of(alloc: Global, case: &Case) -> Result<Option<Vec<u8>>, Fail> {
 #[test]
 fn whole_runs_are_printed(rt: HostRuntime) -> Result<(), Fail> {
     for case in &CASES {
-        let text = text_of(rt.alloc(), case)?;
+        let text = text_of(&rt, rt.alloc(), case)?;
         let wanted = Vec::from_slice(rt.alloc(), case.text.as_bytes())?;
         assert!(rt; text == Some(wanted), "{}", case.what);
     }

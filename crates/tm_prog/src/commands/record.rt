@@ -1,7 +1,7 @@
 //! `record IMAGE PLAN DUMP`
 
 ghost use Rattle.std.specs.Prelude.{◌≡◌, [], ◌∷◌, map, IfOk};
-ghost use Rattle.tm_prog.specs.RecordCommand.{record_of};
+ghost use Rattle.tm_prog.specs.RecordCommand.{record_made};
 ghost use Rattle.tm_prog.specs.Reads.{Reads};
 
 use crate::Status;
@@ -21,7 +21,7 @@ pub(crate) fn record<'a, F: Shelf>(
     plan: &Name<'_>,
     dump: &Name<'a>,
 ) -> Result<Made<'a>, Status>
-    ensures reads { Reads (record_of (F.seen shelf.old).content image.now plan.now dump.now) (F.seen shelf.old) (F.seen shelf.new) result }
+    ensures reads { Reads (record_made (F.seen shelf.old).content image.now plan.now dump.now) (F.seen shelf.old) (F.seen shelf.new) result }
     ensures puts { IfOk result (λ made. map (λ p. p.name) made.puts ≡ dump.now ∷ []) }
     ensures text { IfOk result (λ made. made.text ≡ []) }
 {

@@ -1,7 +1,7 @@
 //! `trace IMAGE PLAN`
 
 ghost use Rattle.std.specs.Prelude.{◌≡◌, [], IfOk};
-ghost use Rattle.tm_prog.specs.TraceCommand.{trace_of};
+ghost use Rattle.tm_prog.specs.TraceCommand.{trace_made};
 ghost use Rattle.tm_prog.specs.Reads.{Reads};
 
 use crate::Status;
@@ -20,7 +20,7 @@ pub(crate) fn trace<'a, F: Shelf>(
     image: &Name<'_>,
     plan: &Name<'_>,
 ) -> Result<Made<'a>, Status>
-    ensures reads { Reads (trace_of (F.seen shelf.old).content image.now plan.now) (F.seen shelf.old) (F.seen shelf.new) result }
+    ensures reads { Reads (trace_made (F.seen shelf.old).content image.now plan.now) (F.seen shelf.old) (F.seen shelf.new) result }
     ensures puts { IfOk result (λ made. made.puts ≡ []) }
 {
     let image: Image = match read_file(alloc, shelf, 1, image, &()) {
