@@ -3,15 +3,17 @@
 pub const VERSION: &str = "tm 0.1.0\n";
 
 pub const HELP: &str = "\
-tm runs preemptive control software, prints or records what it did, and tells from where a record can be replayed.
+tm runs preemptive control software, prints or records what it did, and replays what it recorded.
 
     tm trace IMAGE PLAN             prints the whole run of the plan on the image, from boot
     tm record IMAGE PLAN DUMP       puts the dump of that run's buffers, and prints nothing
     tm points IMAGE DUMP            prints the points from which the dump can be replayed
+    tm replay IMAGE DUMP --from P   prints the run from point P on, as the dump tells it
     tm --help                       prints this
     tm --version                    prints the version
 
 IMAGE, PLAN and DUMP are names of files. A name isn't empty and doesn't begin with a dash.
+P is 1 to 20 decimal digits; --from P, or --from=P, stands anywhere behind the command.
 A status other than 0 is told by one line on standard error.
 
     0   the text was printed, or the dump put
@@ -20,6 +22,8 @@ A status other than 0 is told by one line on standard error.
     4   the image is refused, by its first bad line
     5   the plan is refused, by its first bad line
     6   the dump is refused: it is no dump of a run of the image
+    7   the dump can't be replayed from the point: something that it needs is lost
+    8   the tasks of the image don't do what the dump says
     9   standard output takes no more bytes, or the dump can't be put
     10  the first or the second file is longer than its limit
     11  there is not enough memory

@@ -1,6 +1,6 @@
--- The plain answer to `points` on the dump of a run.
+-- The plain answers to `points` and `replay` on the dump of a run.
 use Rattle.std.proofs.Common.{◌≡◌, ℕ, ◌+◌, ◌≤◌, Bool, true, false, nat_le, List, length, filter, Option, Some, None, Result, Ok, Err, IsTrue, ◌⊎◌, inl, inr, refl, sym, ap, ◌∙◌, subst, arith}
-use Rattle.std.specs.Prelude.{is_none, if◌then◌else◌}
+use Rattle.std.specs.Prelude.{is_none, is_some, IsOk, if◌then◌else◌}
 use Rattle.std.specs.List.{flat_map}
 use Rattle.std.proofs.lemmas.Bool.Decides.{nat_tests}
 use Rattle.sha2.proofs.Facts256.{length-sha256}
@@ -12,24 +12,31 @@ use Rattle.tm_lines.proofs.Steps.{bound}
 use Rattle.tm_image.proofs.Wholes.{image_is}
 use Rattle.tm_log.specs.Window.{WindowView}
 use Rattle.tm_system.specs.Run.{run}
+use Rattle.tm_system.specs.Telling.{text_of_run}
 use Rattle.tm_system.specs.WindowOf.{window_of}
 use Rattle.tm_system.specs.Accepted.{IsAccepted}
+use Rattle.tm_system.specs.declared.diverged.Diverged.{Diverged}
+use Rattle.tm_system.specs.Tracing.{Tracing}
+use Rattle.tm_system.specs.Replaying.{replayed, text_of_window}
 use Rattle.tm_points.specs.declared.finder.Lost.{Lost}
 use Rattle.tm_points.specs.Finder.{lost_of}
 use Rattle.tm_points.specs.Points.{is_accepted, points_of}
 use Rattle.tm_dump.specs.Reading.{window_in}
 use Rattle.tm_widths.specs.Numbers.{FitsImage}
 use Rattle.tm_widths.specs.Legible.{IsScript}
+use Rattle.tm_widths.proofs.Images.{images_fit}
 use Rattle.tm_widths.proofs.Windows.{dumps_of_runs_are_read}
 use Rattle.tm_fidelity.proofs.Accepting.{scripts_are_found}
+use Rattle.tm_fidelity.proofs.Closing.{replays_are_faithful}
 use Rattle.tm_prog.specs.declared.limits.TheConstants.{IMAGE_LIMIT, DUMP_LIMIT}
 use Rattle.tm_prog.specs.declared.status.Status.{Status}
-use Rattle.tm_prog.specs.declared.status.Status.TheVariants.{Image, TooLong}
+use Rattle.tm_prog.specs.declared.status.Status.TheVariants.{Image, Point, TooLong}
 use Rattle.tm_prog.specs.Made.{MadeView, prints, text_alone}
 use Rattle.tm_prog.specs.Reads.{◌>>=◌}
 use Rattle.tm_prog.specs.Files.{said, image_said, image_in, window_file_in}
 use Rattle.tm_prog.specs.RecordCommand.{dump_of_run}
 use Rattle.tm_prog.specs.PointsCommand.{points_made, point_line}
+use Rattle.tm_prog.specs.ReplayCommand.{told_from, unless_lost, replay_made}
 use Rattle.tm_prog.specs.RunDumps.{HaveDumpOfRun, AreAccepted}
 
 -- what a text's lines make is an image
@@ -63,7 +70,11 @@ spells_image (Some bytes) image e = record {
   spelled = within_spells bytes image (nat_le (length bytes) IMAGE_LIMIT) e;
 }
 
--- an image of a file is one
+-- an image of a file is one, with numbers of 32 bits
+file_fits : (file : Option (List ℕ)) (image : ImageView) → image_in file ≡ Some (Ok image) → FitsImage image
+file_fits file image e =
+    let s = spells_image file image e in images_fit s.bytes image s.spelled
+
 pub file_is_image : (file : Option (List ℕ)) (image : ImageView) → image_in file ≡ Some (Ok image) → IsImage image
 file_is_image file image e =
     let s = spells_image file image e in image_read_is s.bytes image s.spelled
@@ -82,7 +93,38 @@ pub files_read : {A : Type 0} (content : List ℕ → Option (List ℕ)) (image_
     (image_in (content image_name) >>= λ i. window_file_in i (content dump_name) >>= λ w. next i w) ≡ next image (window_of image (run image script))
 files_read content image_name dump_name image script next h =
     let is = file_is_image (content image_name) image h.image_there in
-    rw (h.image_there, h.dump_there, dump_read image script is h.fits h.script_is h.within) refl
+    rw (h.image_there, h.dump_there, dump_read image script is (file_fits (content image_name) image h.image_there) h.script_is h.within) refl
+
+-- a window that fits tells its text
+pub fits_tell : (image : ImageView) (w : WindowView) (point : ℕ) (r : Result (List Tracing) Diverged) → IsOk r →
+    told_from image w point r ≡ Ok (text_alone (text_of_window image w point))
+fits_tell image w point (Ok tracings) fits = refl
+fits_tell image w point (Err found) fits = cc
+
+told : (image : ImageView) (script : List Slice) (point : ℕ) → IsImage image → IsAccepted image (run image script) point →
+    told_from image (window_of image (run image script)) point (replayed image (window_of image (run image script)) point)
+    ≡ Ok (text_alone (text_of_run image script point))
+told image script point is accepted =
+    let f = replays_are_faithful image script point is accepted in
+    fits_tell image (window_of image (run image script)) point _ f.fits ∙ ap (λ text. Ok (text_alone text)) f.text
+
+-- from an accepted point the text is the run's
+pub replay_accepted : (content : List ℕ → Option (List ℕ)) (image_name dump_name : List ℕ) (image : ImageView) (script : List Slice) (point : ℕ) →
+    HaveDumpOfRun content image_name dump_name image script → IsAccepted image (run image script) point →
+    replay_made content image_name dump_name point ≡ prints (text_of_run image script point)
+replay_accepted content image_name dump_name image script point h accepted =
+    let is = file_is_image (content image_name) image h.image_there in
+    files_read content image_name dump_name image script (λ i w. Some (unless_lost i w point (lost_of w point))) h ∙
+    ap (λ lost. Some (unless_lost image (window_of image (run image script)) point lost)) ((scripts_are_found image script point is).1 accepted) ∙
+    ap Some (told image script point is accepted)
+
+-- a point from which the run can't be replayed is refused
+pub replay_lost : (content : List ℕ → Option (List ℕ)) (image_name dump_name : List ℕ) (image : ImageView) (script : List Slice) (point : ℕ) (lost : Lost) →
+    HaveDumpOfRun content image_name dump_name image script → lost_of (window_of image (run image script)) point ≡ Some lost →
+    replay_made content image_name dump_name point ≡ Some (Err (Point lost))
+replay_lost content image_name dump_name image script point lost h is_lost =
+    files_read content image_name dump_name image script (λ i w. Some (unless_lost i w point (lost_of w point))) h ∙
+    ap (λ lost. Some (unless_lost image (window_of image (run image script)) point lost)) is_lost
 
 -- the points of the dump of a run
 pub points_listed : (content : List ℕ → Option (List ℕ)) (image_name dump_name : List ℕ) (image : ImageView) (script : List Slice) →

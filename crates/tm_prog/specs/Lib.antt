@@ -3,11 +3,13 @@ pub mod Status
 pub mod Made
 pub mod Reads
 pub mod Words
+pub mod WordsFound
 pub mod Command
 pub mod Files
 pub mod TraceCommand
 pub mod RecordCommand
 pub mod PointsCommand
+pub mod ReplayCommand
 pub mod Answer
 pub mod World
 pub mod Outcome

@@ -1,10 +1,10 @@
 //! What the words of a call ask for.
 
-ghost use Rattle.std.specs.Prelude.{◌≡◌};
+ghost use Rattle.std.specs.Prelude.{◌≡◌, [], ◌∷◌, ◌++◌, string_bytes};
 ghost use Rattle.tm_prog.specs.Words.{texts};
-ghost use Rattle.tm_prog.specs.Command.{command_of, asked, trace_asked, record_asked, points_asked};
+ghost use Rattle.tm_prog.specs.Command.{command_of, asked, trace_asked, record_asked, points_asked, replay_asked, from_point};
 
-use crate::words::{Kind, is_name, kind_of};
+use crate::words::{Kind, is_name, kind_of, number_in, option_in};
 use std::marker::Model;
 
 /// The name of a file, as a word of the call gives it.
@@ -54,10 +54,16 @@ pub(crate) enum Command<'a> {
         image: Name<'a>,
         dump: Name<'a>,
     },
+    /// The text of the run that a dump of an image tells, from a point on.
+    Replay {
+        image: Name<'a>,
+        dump: Name<'a>,
+        from: u64,
+    },
 }
 
-/// The command that the words are a form of. A first word that is no command, a missing or surplus word and a
-/// word that is no name leave none.
+/// The command that the words are a form of. A first word that is no command, a missing or surplus word, a
+/// word that is no name, and a number out of its form leave none.
 #[tactic(auto, unfolding(crate::specs::Command::command_of))]
 pub(crate) fn command_of(words: &[String]) -> Option<Command<'_>>
     ensures { result ≡ command_of (texts words.now) }
@@ -79,6 +85,7 @@ fn asked(kind: Kind, words: &[String]) -> Option<Command<'_>>
         Kind::Trace => trace_asked(words),
         Kind::Record => record_asked(words),
         Kind::Points => points_asked(words),
+        Kind::Replay => replay_asked(words),
     }
 }
 
@@ -126,5 +133,53 @@ fn points_asked(words: &[String]) -> Option<Command<'_>>
             })
         }
         _ => None,
+    }
+}
+
+/// `replay IMAGE DUMP --from P`, with the option anywhere.
+fn replay_asked(words: &[String]) -> Option<Command<'_>>
+    ensures { result ≡ replay_asked (texts words.now) }
+{
+    match option_in(words, b"--from", b"--from=") {
+        Some(found) => match number_in(found.value) {
+            Some(from) => from_point(found.before, found.behind, from),
+            None => None,
+        },
+        None => None,
+    }
+}
+
+/// `IMAGE DUMP`, parted in two, beside a point.
+fn from_point<'a>(before: &'a [String], behind: &'a [String], from: u64) -> Option<Command<'a>>
+    ensures { result ≡ from_point (texts before.now ++ texts behind.now) from }
+{
+    match before {
+        [] => match behind {
+            [image, dump] => replay_of(image, dump, from),
+            _ => None,
+        },
+        [image] => match behind {
+            [dump] => replay_of(image, dump, from),
+            _ => None,
+        },
+        [image, dump] => match behind {
+            [] => replay_of(image, dump, from),
+            _ => None,
+        },
+        [_, _, _, ..] => None,
+    }
+}
+
+fn replay_of<'a>(image: &'a String, dump: &'a String, from: u64) -> Option<Command<'a>>
+    ensures { result ≡ from_point (string_bytes image.now ∷ string_bytes dump.now ∷ []) from }
+{
+    if is_name(image.as_str()) && is_name(dump.as_str()) {
+        Some(Command::Replay {
+            image: Name::new(image.as_str()),
+            dump: Name::new(dump.as_str()),
+            from,
+        })
+    } else {
+        None
     }
 }

@@ -7,6 +7,7 @@ ghost use Rattle.tm_prog.specs.Reads.{Reads};
 
 mod points;
 mod record;
+mod replay;
 mod trace;
 
 use crate::Status;
@@ -30,5 +31,6 @@ pub(crate) fn made_of<'a, F: Shelf>(
         Command::Trace { image, plan } => trace::trace(alloc, shelf, image, plan),
         Command::Record { image, plan, dump } => record::record(alloc, shelf, image, plan, dump),
         Command::Points { image, dump } => points::points(rt, alloc, shelf, image, dump),
+        Command::Replay { image, dump, from } => replay::replay(alloc, shelf, image, dump, *from),
     }
 }

@@ -25,12 +25,12 @@ pub(crate) trait FileKind<C> {
     ghost reading: { C → List ℕ → Result Self Status };
 
     // What each value keeps.
-    ghost sound: { Self → Type 0 };
+    ghost sound: { C → Self → Type 0 };
 
     fn read(alloc: Global, beside: &C, bytes: &[u8]) -> Result<Self, Status>
         requires { length bytes.now ≤ LIMIT }
         ensures read { Says (reading beside.now bytes.now) result }
-        ensures sound { IfOk result sound };
+        ensures sound { IfOk result (sound beside.now) };
 }
 
 /// The status for an image's text that was not read.
@@ -74,7 +74,7 @@ impl FileKind<()> for Image {
 
     ghost reading = { λ _. image_said };
 
-    ghost sound = { IsImage };
+    ghost sound = { λ _. IsImage };
 
     fn read(alloc: Global, _beside: &(), bytes: &[u8]) -> Result<Image, Status> {
         read_image(alloc, bytes).map_err(image_status)
@@ -92,7 +92,7 @@ impl FileKind<()> for Plan {
 
     ghost reading = { λ _. script_said };
 
-    ghost sound = { λ plan. length plan < 2 ^ 32 };
+    ghost sound = { λ _ plan. length plan < 2 ^ 32 };
 
     fn read(alloc: Global, _beside: &(), bytes: &[u8]) -> Result<Plan, Status> {
         read_plan(alloc, bytes).map_err(plan_status)
@@ -101,6 +101,8 @@ impl FileKind<()> for Plan {
 
 // A dump is read beside its image.
 impl FileKind<Image> for Window {
+    ghost use Rattle.tm_log.specs.WellFormed.{IsWellFormed};
+    ghost use Rattle.tm_image.specs.Image.{shape_of};
     ghost use Rattle.tm_prog.specs.declared.limits.TheConstants.{DUMP_LIMIT};
     ghost use Rattle.tm_prog.specs.Files.{window_said};
 
@@ -110,10 +112,13 @@ impl FileKind<Image> for Window {
 
     ghost reading = { window_said };
 
-    ghost sound = { λ _. Unit {0} };
+    ghost sound = { λ image window. IsWellFormed window (shape_of image) };
 
     fn read(alloc: Global, image: &Image, bytes: &[u8]) -> Result<Window, Status> {
-        read_dump(alloc, bytes, image).map_err(dump_status)
+        match read_dump(alloc, bytes, image) {
+            Ok(window) => Ok(window),
+            Err(fault) => Err(dump_status(fault)),
+        }
     }
 }
 
@@ -127,7 +132,7 @@ pub(crate) fn read_file<V: FileKind<C>, C, F: Shelf>(
 ) -> Result<V, Status>
     requires { CanRefuse (Status.TooLong number) }
     ensures read { Reads (file_in V.LIMIT number (V.reading beside.now) ((F.seen shelf.old).content name.now)) (F.seen shelf.old) (F.seen shelf.new) result }
-    ensures sound { IfOk result V.sound }
+    ensures sound { IfOk result (V.sound beside.now) }
 {
     let mut bytes = Vec::new(alloc);
     match shelf.get(name.text(), V::LIMIT, &mut bytes) {

@@ -5,7 +5,7 @@
 //! on standard error.
 #![tactic(auto)]
 
-ghost use Rattle.std.specs.Prelude.{◌≡◌, ◌≢◌, ◌↔◌, List, Some, None, Ok, IsTrue};
+ghost use Rattle.std.specs.Prelude.{◌≡◌, ◌≢◌, ◌↔◌, ℕ, List, Some, None, Ok, IsTrue};
 ghost use Rattle.tm_marker.specs.declared.entries.Slice.{Slice};
 ghost use Rattle.tm_image.specs.Image.{ImageView};
 ghost use Rattle.tm_prog.specs.declared.status.Status.{Status};
@@ -16,12 +16,13 @@ ghost use Rattle.tm_prog.specs.Words.{texts};
 ghost use Rattle.tm_prog.specs.Command.{command_of};
 ghost use Rattle.tm_prog.specs.Answer.{answer_of};
 ghost use Rattle.tm_prog.specs.World.{world, IsReady};
-ghost use Rattle.tm_prog.specs.RunDumps.{IsListOf, ListsRun};
+ghost use Rattle.tm_prog.specs.RunDumps.{IsReplayOf, ReplaysRun, IsListOf, ListsRun};
 ghost use Rattle.tm_prog.specs.Outcome.{Ends, Counts, Stays, OthersStay, IsSilent, IsDone, NoneRose};
 
 mod command;
 mod commands;
 mod deliver;
+mod digits;
 mod ending;
 mod files;
 mod limits;
@@ -70,7 +71,11 @@ pub fn tm<F: Shelf, K: Sink>(
         IsReady made (world (F.seen shelf.old) (K.seen out.old)) →
         IsDone result }
 
-    // On the dump of a run, `points` lists exactly the points from which the run can be replayed.
+    // On the dump of a run, `replay` tells exactly the run, from each point from which the run can be
+    // replayed, and refuses every other point; and `points` lists these points.
+    ensures replays { (image : ImageView) (script : List Slice) (point : ℕ) → IsTrue (F.seen shelf.old).tells →
+        IsReplayOf (command_of (texts words.now)) (F.seen shelf.old).content image script point →
+        ReplaysRun result image script point (world (F.seen shelf.old) (K.seen out.old)) (world (F.seen shelf.new) (K.seen out.new)) }
     ensures lists { (image : ImageView) (script : List Slice) → IsTrue (F.seen shelf.old).tells →
         IsListOf (command_of (texts words.now)) (F.seen shelf.old).content image script →
         ListsRun result image script (world (F.seen shelf.old) (K.seen out.old)) (world (F.seen shelf.new) (K.seen out.new)) }

@@ -16,7 +16,7 @@ const LENGTH: usize = 172;
 #[test]
 fn words_of_no_form_are_refused(rt: HostRuntime) -> Result<(), Fail> {
     let alloc = rt.alloc();
-    let cases: [&[&str]; 15] = [
+    let cases: [&[&str]; 24] = [
         &[],
         &["trace"],
         &["trace", "a"],
@@ -31,6 +31,15 @@ fn words_of_no_form_are_refused(rt: HostRuntime) -> Result<(), Fail> {
         &["points", "a"],
         &["points", "a", "b", "c"],
         &["points", "a", "b", "--from", "1"],
+        &["replay", "a", "b"],
+        &["replay", "a", "b", "--from"],
+        &["replay", "a", "b", "--from", "1", "--from", "1"],
+        &["replay", "a", "b", "--from=1", "c"],
+        &["replay", "a", "b", "--from", "-1"],
+        &["replay", "a", "b", "--from="],
+        &["replay", "a", "b", "--from=18446744073709551616"],
+        &["replay", "a", "b", "--from=000000000000000000001"],
+        &["replay", "a", "--from=1", "-b"],
         &["--help"],
     ];
     for case in cases {

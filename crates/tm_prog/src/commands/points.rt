@@ -7,9 +7,9 @@ ghost use Rattle.tm_prog.specs.Reads.{Reads};
 
 use crate::Status;
 use crate::command::Name;
+use crate::digits::put_decimal;
 use crate::files::read_file;
 use crate::made::Made;
-use itoa::Buffer;
 use std::alloc::{AllocError, Global};
 use std::thread::Threads;
 use tm_image::Image;
@@ -60,7 +60,6 @@ fn lines_of(alloc: Global, points: &[u64]) -> Result<Vec<u8>, AllocError>
 fn put_line(point: u64, text: &mut Vec<u8>) -> Result<(), AllocError>
     ensures { OnOk result (text.new.items ≡ text.old.items ++ point_line point) }
 {
-    let mut buffer = Buffer::new();
-    text.extend_from_slice(buffer.format(point).as_bytes())?;
+    put_decimal(point, text)?;
     text.extend_from_slice(b"\n")
 }
