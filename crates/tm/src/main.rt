@@ -31,24 +31,12 @@ fn information(words: &[String]) -> Option<&'static str> {
     }
 }
 
-fn run(rt: &HostRuntime) -> Status {
-    let words = match words(rt) {
-        Ok(words) => words,
-        Err(status) => return status,
-    };
-    if let Some(text) = information(&words) {
-        return match rt.print(text) {
-            Ok(()) => Status::Ok,
-            Err(_) => Status::WriteFault,
-        };
+/// Prints a text that no command makes.
+fn inform(rt: &HostRuntime, text: &str) -> Status {
+    match rt.print(text) {
+        Ok(()) => Status::Ok,
+        Err(_) => Status::WriteFault,
     }
-    tm(
-        rt,
-        rt.alloc(),
-        &words,
-        &mut FileShelf::new(rt),
-        &mut OutSink::new(rt),
-    )
 }
 
 /// Prints the status line, which takes memory only where it has a number in it; where it can't be made or
@@ -65,7 +53,19 @@ fn report(rt: &HostRuntime, status: Status) {
 }
 
 fn main(rt: HostRuntime) -> ExitCode {
-    let status = run(&rt);
+    let status = match words(&rt) {
+        Ok(words) => match information(&words) {
+            Some(text) => inform(&rt, text),
+            None => tm(
+                &rt,
+                rt.alloc(),
+                &words,
+                &mut FileShelf::new(&rt),
+                &mut OutSink::new(&rt),
+            ),
+        },
+        Err(status) => status,
+    };
     report(&rt, status);
     ExitCode::from(status.code())
 }
