@@ -2,11 +2,13 @@
 //!
 //! [`Shelf`] and [`Sink`] say what the program asks of that edge. [`MemShelf`] and [`MemSink`] keep
 //! all in memory, for tests and for callers that want the bytes, and fail the calls that they are
-//! told to fail. [`FileShelf`] and [`OutSink`] stand over files and standard output.
+//! told to fail. [`FileShelf`] and [`OutSink`] stand over files and standard output. A [`Gate`] is told what
+//! the threads of a call are about to do.
 #![tactic(auto)]
 
 mod counts;
 mod file_shelf;
+mod gate;
 mod mem_shelf;
 mod mem_sink;
 mod named_room;
@@ -18,6 +20,7 @@ mod sink;
 mod whole_file;
 
 pub use file_shelf::FileShelf;
+pub use gate::{Gate, Open};
 pub use mem_shelf::MemShelf;
 pub use mem_sink::MemSink;
 pub use out_sink::OutSink;
