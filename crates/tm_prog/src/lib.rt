@@ -125,6 +125,3 @@ fn answered<F: Shelf, K: Sink>(
         Err(_) => Status::WriteFault,
     }
 }
-
-#[cfg(test)]
-mod tests;

@@ -1,10 +1,14 @@
-//! The tests that cross crates: whole texts and refusals of the call `tm`, over a shelf and a sink in
-//! memory. Expected texts were worked by hand from the tables of instructions and services.
+//! The tests that cross crates: whole texts, dumps and refusals of the call `tm`, over a shelf and a
+//! sink in memory. Expected texts were worked by hand from the tables of instructions and services.
 #![tactic(auto)]
 
 #[cfg(test)]
 mod calls;
 #[cfg(test)]
+mod dumps;
+#[cfg(test)]
 mod faults;
+#[cfg(test)]
+mod statuses;
 #[cfg(test)]
 mod texts;
