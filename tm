@@ -1,7 +1,7 @@
 #!/usr/bin/env bash
 # Builds the proved program where it isn't built yet or a source is newer, and runs it with the words as
-# given, from the caller's folder. The first time, crates are proved side by side, as many as there are
-# processors and memory (or TM_JOBS); standard error says how many of them are, and for how long it has been at it.
+# given, from the caller's folder. Crates are proved side by side, as many as there are processors and memory
+# (or TM_JOBS); standard error says how many of them are, and for how long it has been at it.
 top=$(cd "$(dirname "${BASH_SOURCE[0]}")" && pwd) || exit 1
 program=$top/crates/tm/out/tm
 
@@ -52,7 +52,7 @@ prove_side_by_side() {
 build() {
   local log
   log=$(mktemp) || exit 1
-  [ -x "$program" ] || prove_side_by_side
+  prove_side_by_side
   say "building the program"
   if ! (cd "$top/crates/tm" && rt run -- --version) >"$log" 2>&1 </dev/null; then
     cat "$log" >&2
