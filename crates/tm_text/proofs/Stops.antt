@@ -1,5 +1,5 @@
 -- The stops of tasks, looked up by their numbers.
-use Rattle.std.proofs.Common.{◌≡◌, ℕ, zero, suc, ◌+◌, ◌<◌, ◌≤◌, Bool, true, false, ◌==◌, List, [], ◌∷◌, ◌++◌, length, map, flat_map, drop, slice_get, find, Option, Some, None, refl, ap, sym, ◌∙◌, append_assoc, arith, inl, inr, get_or-set_other, get_or-set_same}
+use Rattle.std.proofs.Common.{◌≡◌, ℕ, zero, suc, ◌+◌, ◌<◌, ◌≤◌, true, false, ◌==◌, List, [], ◌∷◌, ◌++◌, length, map, flat_map, slice_get, find, Option, Some, None, refl, ap, sym, ◌∙◌, append_assoc, arith, inl, inr, get_or-set_other, get_or-set_same}
 use Rattle.std.specs.Prelude.{option_map, option_and_then, slice_index, slice_set}
 use Rattle.std.proofs.lemmas.Bool.{cases_Bool, cases_lt, cases_eq, ne_eqb, eq-eqb}
 use Rattle.std.proofs.lemmas.List.{append-nil}
@@ -9,7 +9,7 @@ use Rattle.tm_log.specs.Points.{entries_from}
 use Rattle.tm_log.proofs.Reading.{items_at, items_past}
 use Rattle.tm_log.specs.Window.{WindowView}
 use Rattle.tm_spelling.specs.Lines.{start_line}
-use Rattle.tm_spelling.specs.Story.{Leave, Block, Last, start_view_text, block_text, end_text, spelled}
+use Rattle.tm_spelling.specs.Story.{start_view_text, block_text, end_text, spelled}
 use Rattle.tm_spelling.specs.Tracks.{Track as ToldTrack, leave_in, leave_by, blocks_by, last_by, lasts_by}
 use Rattle.tm_text.specs.declared.seen.Replay.{Replay}
 use Rattle.tm_text.specs.declared.seen.Stop.{Stop}

@@ -3,7 +3,7 @@
 ghost use Rattle.std.specs.Prelude.{◌≡◌, ◌++◌, ◌+◌, ◌==◌, ◌≤◌, length, find, map, flat_map, option_map, option_copied, All, OnOk, OnErr};
 ghost use Rattle.tm_log.specs.Points.{entries_from};
 ghost use Rattle.tm_ring.specs.Kept.{first_of};
-ghost use Rattle.tm_spelling.specs.Story.{start_view_text, start_text, block_text, spelled};
+ghost use Rattle.tm_spelling.specs.Story.{start_view_text, block_text, spelled};
 ghost use Rattle.tm_spelling.specs.Tracks.{blocks_by, leave_by};
 ghost use Rattle.tm_text.specs.Prefix.{Keeps};
 ghost use Rattle.tm_text.specs.Views.{view_of, leave_of, track_view, replay_story};

@@ -6,7 +6,7 @@ ghost use Rattle.tm_text.specs.Prefix.{Keeps};
 
 use itoa::Buffer;
 use std::alloc::AllocError;
-use tm_marker::{Kind, Marker, NOBODY};
+use tm_marker::{FAULTED, GOES_ON, Kind, Marker, NOBODY, READY, RUNNING, SUSPENDED};
 
 pub fn put(text: &[u8], into: &mut Vec<u8>) -> Result<(), AllocError>
     ensures ok { OnOk result (into.new.items ≡ into.old.items ++ text.now) }
@@ -91,9 +91,9 @@ pub fn state_name(state: u8) -> &'static [u8]
     ensures { result.now ≡ state_name state }
 {
     match state {
-        0 => b"suspended",
-        1 => b"ready",
-        2 => b"running",
+        SUSPENDED => b"suspended",
+        READY => b"ready",
+        RUNNING => b"running",
         _ => b"waiting",
     }
 }
@@ -102,8 +102,8 @@ pub fn ending_name(ended: u8) -> &'static [u8]
     ensures { result.now ≡ ending_name ended }
 {
     match ended {
-        0 => b"on",
-        1 => b"fault",
+        GOES_ON => b"on",
+        FAULTED => b"fault",
         _ => b"shutdown",
     }
 }
