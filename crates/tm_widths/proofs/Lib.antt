@@ -4,3 +4,4 @@ pub mod Bodies
 pub mod Runs
 pub mod Windows
 pub mod Telling
+pub mod Shortness

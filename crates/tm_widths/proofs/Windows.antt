@@ -62,7 +62,7 @@ words_are image =
     (slice_get-map (λ (l : Load). length l.words) image.loads t ∙ ap (option_map (λ (l : Load). length l.words)) (load_there image t there)))
 
 -- the window is one
-window_is : (image : ImageView) (h : History) → IsImage image → IsSoundAt image h → IsWindow (window_of image h)
+pub window_is : (image : ImageView) (h : History) → IsImage image → IsSoundAt image h → IsWindow (window_of image h)
 window_is image h i s = record {
   shape = shape_is image i;
   control = refl;
@@ -95,7 +95,7 @@ checks_are cap words all c w few sized =
       sized = All-drop (λ (c : Checkpoint). length c.body.words ≡ words) (length all - cap) all sized;
     }
 
-buffers_are : (image : ImageView) (h : History) → IsImage image → FitsRun image h → length h + 1 ≤ 2 ^ 53 → AreBuffers (window_of image h)
+pub buffers_are : (image : ImageView) (h : History) → IsImage image → FitsRun image h → length h + 1 ≤ 2 ^ 53 → AreBuffers (window_of image h)
 buffers_are image h i f few = record {
   control = ring_is image.caps.control (controls image h) i.caps.control (omega (arith, controls_few image h, few));
   outputs = ring_is image.caps.outputs (outputs h) i.caps.outputs (omega (arith, outputs_few h, few));
@@ -185,7 +185,7 @@ unfolding recorder_of
 well_formed image script i s is =
     recorders_are_well_formed (recorder_of image script) i (window_is image (run image script) i s) (recorder_is image script s is)
 
-run_short : (image : ImageView) (script : List Slice) → IsScript script → length (run image script) + 1 < 2 ^ 53
+pub run_short : (image : ImageView) (script : List Slice) → IsScript script → length (run image script) + 1 < 2 ^ 53
 run_short image script is =
     let short = played_short image script [] (All-weaker IsSlice (λ s. s.length ≤ 1048576) (λ s each. each.short) script is.slices) in
     omega (arith, short, is.few)

@@ -1,5 +1,5 @@
--- The dump of a run is read, and gives the run's window.
-use Rattle.std.specs.Prelude.{◌≡◌, ◌↔◌, ℕ, ◌<◌, ◌^◌, List, length, All, None, Ok}
+-- The dump of a run is short, is read, and gives the run's window.
+use Rattle.std.specs.Prelude.{◌≡◌, ◌↔◌, ℕ, ◌*◌, ◌<◌, ◌≤◌, ◌^◌, List, length, All, None, Ok}
 use Rattle.tm_marker.specs.declared.entries.Slice.{Slice}
 use Rattle.tm_image.specs.Image.{ImageView, IsImage, image_of, shape_of}
 use Rattle.tm_image.specs.Plan.{IsSlice}
@@ -38,3 +38,8 @@ DumpsTellRuns = (image : ImageView) (script : List Slice) (point : ℕ) → IsIm
 abbrev pub DumpsOfRunsAreRead : Type 0
 DumpsOfRunsAreRead = (image : ImageView) (script : List Slice) → IsImage image → FitsImage image → IsScript script →
     window_in (shape_of image) (dump_bytes (window_of image (run image script))) ≡ Ok (window_of image (run image script))
+
+-- the dump of every run has at most 128 MiB
+abbrev pub DumpsOfRunsAreShort : Type 0
+DumpsOfRunsAreShort = (image : ImageView) (script : List Slice) → IsImage image → FitsImage image → IsScript script →
+    length (dump_bytes (window_of image (run image script))) ≤ 128 * 1024 * 1024
