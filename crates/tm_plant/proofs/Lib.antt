@@ -1,0 +1,4 @@
+pub mod Calm
+pub mod Adding
+pub mod Spelled
+pub mod Tapes

@@ -1,0 +1,5 @@
+pub mod Said
+pub mod Plant
+pub mod Plays
+pub mod Tape
+pub mod Room
