@@ -17,7 +17,7 @@ use Rattle.tm_system.specs.WindowOf.{window_of}
 use Rattle.tm_system.specs.Tracing.{Tracing}
 use Rattle.tm_system.specs.Replaying.{replayed, text_of_window}
 use Rattle.tm_system.proofs.Texts.{upto_boot}
-use Rattle.tm_record.proofs.Consistent.{checkpoints_count}
+use Rattle.tm_system.proofs.Counts.{checkpoints_count}
 use Rattle.tm_fidelity.specs.Fidelity.{IsFaithful, IsWhole}
 use Rattle.tm_fidelity.proofs.Fitting.{IsReplay}
 

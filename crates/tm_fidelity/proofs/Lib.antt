@@ -19,4 +19,3 @@ pub mod Meetings
 pub mod Demands
 pub mod Traced
 pub mod Closing
-pub mod Living

@@ -13,8 +13,7 @@ use Rattle.tm_system.specs.Controls.{controls, entries, checkpoints}
 use Rattle.tm_system.specs.Telling.{upto}
 use Rattle.tm_system.specs.Accepted.{IsPointKept}
 use Rattle.tm_system.specs.Follows.{IsRun}
-use Rattle.tm_record.proofs.Consistent.{checkpoints_count}
-use Rattle.tm_record.proofs.Marks.{epochs_rise}
+use Rattle.tm_system.proofs.Counts.{checkpoints_count, epochs_rise}
 use Rattle.tm_system.specs.WindowOf.{last_checks, window_of}
 use Rattle.tm_points.specs.declared.finder.Lost.{Lost}
 use Rattle.tm_points.specs.declared.finder.Lost.TheVariants.{Unknown, Control, Check, Data}

@@ -23,7 +23,7 @@ use Rattle.tm_system.specs.Alone.{Alone, walk_to}
 use Rattle.tm_system.proofs.Marking.{same_standing, epochs_start, epochs_stay, backs_start}
 use Rattle.tm_system.proofs.Below.{get_front, get_last}
 use Rattle.tm_system.proofs.Walking.{walks_go_on, walkers_rise}
-use Rattle.tm_record.proofs.Consistent.{checkpoints_count}
+use Rattle.tm_system.proofs.Counts.{checkpoints_count}
 use Rattle.tm_fidelity.proofs.Moving.{alone_with, here, entries_more, log_more, StandsStill, moved, walker, same_place}
 
 -- the order of markers, by their parts

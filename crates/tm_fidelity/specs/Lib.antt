@@ -1,4 +1,3 @@
 pub mod Finding
 pub mod Making
 pub mod Fidelity
-pub mod Recorders

@@ -1,19 +1,17 @@
 -- What a recorder keeps, since it stands for a script.
-use Rattle.std.proofs.Common.{◌≡◌, ℕ, ◌+◌, ◌-◌, ◌*◌, ◌<◌, ◌≤◌, Bool, true, false, if◌then◌else◌, List, [], ◌∷◌, ◌++◌, length, All, refl, ap, sym, ◌∙◌, subst, arith, length-append, length-drop, unwrap_or, Option}
+use Rattle.std.proofs.Common.{◌≡◌, ℕ, ◌+◌, ◌-◌, ◌*◌, ◌<◌, ◌≤◌, List, [], length, All, ap, sym, ◌∙◌, subst, arith, length-drop, unwrap_or, Option}
 use Rattle.std.proofs.lemmas.Option.{unwrap_or-slice_get}
 use Rattle.tm_marker.specs.declared.entries.Slice.{Slice}
 use Rattle.tm_task.specs.Standing.{TaskView, task_view, boot_body}
 use Rattle.tm_kernel.specs.State.{KernelState, IsKernel, nobody}
 use Rattle.tm_kernel.specs.Schedule.{pick}
 use Rattle.tm_kernel.specs.Nesting.{IsNested, IsSettled}
-use Rattle.tm_image.specs.Image.{ImageView}
 use Rattle.tm_check.specs.Checkpoint.{Checkpoint, KeptChecks, kept_checks, HoldsChecks, IsCheckKept}
 use Rattle.tm_log.specs.Window.{WindowView, IsWindow, checks_of}
 use Rattle.tm_system.specs.History.{History}
 use Rattle.tm_system.specs.Run.{run}
-use Rattle.tm_system.specs.Marks.{is_start, backs, epochs}
+use Rattle.tm_system.specs.Marks.{epochs}
 use Rattle.tm_system.specs.Controls.{checkpoints}
-use Rattle.tm_system.specs.Gaining.{checkpoint_at}
 use Rattle.tm_system.specs.Machine.{task_at}
 use Rattle.tm_system.specs.Laws.{IsSoundAt}
 use Rattle.tm_system.proofs.Lengths.{played_short, first_moment}
@@ -24,7 +22,7 @@ use Rattle.tm_system.specs.Bodies.{HaveBodies}
 use Rattle.tm_system.specs.Moving.{task_in}
 use Rattle.tm_record.specs.Laws.{TotalsAreBounded, RecordersAreOfTheirImage}
 use Rattle.tm_system.proofs.Bodies.{boot_bodies, played_bodies}
-use Rattle.tm_record.proofs.Counts.{entries_few, outputs_few, checkpoints_few}
+use Rattle.tm_system.proofs.Counts.{entries_few, outputs_few, checkpoints_few, checkpoints_count}
 use Rattle.tm_record.proofs.Moments.{shape_tasks}
 
 -- the run of the script that a recorder stands for is as long as its slices could make it
@@ -44,18 +42,6 @@ totals_are_bounded r real =
       logs = λ t below. omega (arith, (l.logs t below).total, entries_few t h, short);
       checks = λ t below. omega (arith, (l.checks t below).total, checkpoints_few r.image t h, short);
     }
-
--- there is one checkpoint for each epoch
-one_each : (b : Bool) (xs : List Checkpoint) (x : Checkpoint) (n : ℕ) → length xs ≡ n + 1 →
-    length (if b then xs ++ x ∷ [] else xs) ≡ (if b then n + 1 else n) + 1
-one_each true xs x n e = omega (arith, length-append xs (x ∷ []))
-one_each false xs x n e = e
-
-pub checkpoints_count : (image : ImageView) (t : ℕ) (h : History) → length (checkpoints image t h) ≡ epochs t h + 1
-unfolding checkpoints epochs
-checkpoints_count image t [] = refl
-checkpoints_count image t (m ∷ h) =
-    one_each (is_start t m.deed (backs t h)) (checkpoints image t h) (checkpoint_at image t m h) (epochs t h) (checkpoints_count image t h)
 
 -- the newest checkpoint is kept
 newest_kept : (k : KeptChecks) (all : List Checkpoint) (e : ℕ) → HoldsChecks k all → length all ≡ e + 1 → 0 < k.cap → IsCheckKept k e

@@ -1,5 +1,4 @@
 pub mod Lists
-pub mod Counts
 pub mod Moments
 pub mod Ending
 pub mod Scripts

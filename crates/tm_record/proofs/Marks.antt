@@ -1,4 +1,4 @@
--- The marks of a task in a run: counts stay below the length of an epoch, and epochs only go up.
+-- The marks of a task in a run: counts stay below the length of an epoch, and each marker was the task's.
 use Rattle.std.proofs.Common.{◌≡◌, ◌≢◌, ℕ, ◌+◌, ◌<◌, ◌≤◌, Bool, true, false, ◌||◌, ◌&&◌, ◌==◌, if◌then◌else◌, [], ◌∷◌, length, refl, sym, subst, arith, inl, inr}
 use Rattle.std.proofs.lemmas.Bool.{cases_eq, eq-eqb, ne_eqb, eqb-false}
 use Rattle.tm_marker.specs.declared.marker.Marker.{Marker}
@@ -10,7 +10,8 @@ use Rattle.tm_log.specs.WellFormed.{IsMarker, IsTaskOrNobody}
 use Rattle.tm_system.specs.History.{Moment, History}
 use Rattle.tm_system.specs.Run.{running_at}
 use Rattle.tm_task.specs.Standing.{marker_of}
-use Rattle.tm_system.specs.Marks.{is_back, begins, is_start, backs, epochs, marker_at, standing_at}
+use Rattle.tm_system.specs.Marks.{is_back, begins, backs, epochs, marker_at, standing_at}
+use Rattle.tm_system.proofs.Counts.{epochs_rise}
 use Rattle.tm_system.proofs.Following.{running_in}
 use Rattle.tm_record.proofs.Histories.{IsGood}
 
@@ -26,15 +27,6 @@ pub backs_below : (t : ℕ) (h : History) → backs t h < EPOCH_LENGTH
 unfolding backs
 backs_below t [] = omega arith
 backs_below t (m ∷ h) = count_below (begins t m.deed) (is_back t m.deed) (backs t h + 1 == EPOCH_LENGTH) (backs t h) refl (backs_below t h)
-
-more_or_same : (b : Bool) (n : ℕ) → n ≤ (if b then n + 1 else n)
-more_or_same true n = omega arith
-more_or_same false n = omega arith
-
--- no epoch goes down
-pub epochs_rise : (t : ℕ) (m : Moment) (h : History) → epochs t h ≤ epochs t (m ∷ h)
-unfolding epochs
-epochs_rise t m h = more_or_same (is_start t m.deed (backs t h)) (epochs t h)
 
 -- an image has at most 16 tasks, so that none of them is nobody
 pub tasks_few : (image : ImageView) → IsImage image → length image.loads ≤ 16

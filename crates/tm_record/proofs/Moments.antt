@@ -1,6 +1,5 @@
 -- One moment keeps machine and window where the history is.
-use Rattle.std.proofs.Common.{◌≡◌, ◌≢◌, ℕ, ◌+◌, ◌^◌, ◌<◌, ◌≤◌, Bool, true, false, ◌==◌, if◌then◌else◌, List, [], ◌∷◌, ◌++◌, length, get_or, slice_get, unwrap_or, Option, Some, None, IfSome, refl, ap, sym, ◌∙◌, subst, arith, inl, inr}
-use Rattle.std.proofs.lemmas.Bool.{cases_Bool}
+use Rattle.std.proofs.Common.{◌≡◌, ◌≢◌, ℕ, ◌+◌, ◌^◌, ◌<◌, Bool, true, false, if◌then◌else◌, [], ◌∷◌, ◌++◌, length, get_or, unwrap_or, Option, Some, None, IfSome, refl, ap, sym, ◌∙◌, subst, arith, inl, inr}
 use Rattle.std.proofs.lemmas.List.{get_or-map, length-map}
 use Rattle.std.proofs.lemmas.Option.{unwrap_or-slice_get}
 use Rattle.tm_marker.specs.declared.body.Body.{Body}
@@ -11,7 +10,7 @@ use Rattle.tm_marker.specs.declared.entries.OutputEntry.{OutputEntry}
 use Rattle.tm_task.specs.Exec.{Exec, Faults, Calls, Goes, exec}
 use Rattle.tm_task.specs.Standing.{TaskView, task_view, boot_body}
 use Rattle.tm_kernel.specs.State.{nobody}
-use Rattle.tm_image.specs.Image.{Load, ImageView, IsImage, load_of, entry_of, text_of, shape_of}
+use Rattle.tm_image.specs.Image.{Load, ImageView, load_of, entry_of, text_of, shape_of}
 use Rattle.tm_ring.specs.Kept.{Holds}
 use Rattle.tm_check.specs.Checkpoint.{checkpoint, KeptChecks, kept_checks, HoldsChecks}
 use Rattle.tm_log.specs.Window.{WindowView, IsWindow, log_of, checks_of}
@@ -30,7 +29,7 @@ use Rattle.tm_system.proofs.Texts.{controls_few}
 use Rattle.tm_record.specs.Window.{HoldsLists}
 use Rattle.tm_record.specs.Recording.{checkpoint_now, noted, entry_noted, check_noted, output_noted, switch_noted, HasRoom, Concerns, IsNoted}
 use Rattle.tm_record.proofs.Lists.{Keeps, keeps_entry, keeps_check, keeps_output, keeps_switch}
-use Rattle.tm_record.proofs.Counts.{entries_few, outputs_few, checkpoints_few}
+use Rattle.tm_system.proofs.Counts.{entries_few, outputs_few, checkpoints_few}
 
 -- a window's shape has as many tasks as the image, and so have its lists
 pub shape_tasks : (image : ImageView) (w : WindowView) → w.shape ≡ shape_of image → length w.shape.words ≡ length image.loads

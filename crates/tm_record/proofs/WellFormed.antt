@@ -19,8 +19,8 @@ use Rattle.tm_system.proofs.Texts.{controls_few}
 use Rattle.tm_record.specs.Window.{IsWindowOf}
 use Rattle.tm_record.specs.StandsFor.{RecorderView, IsReal}
 use Rattle.tm_record.specs.Laws.{RecordersAreWellFormed}
-use Rattle.tm_record.proofs.Consistent.{run_short, checkpoints_count}
-use Rattle.tm_record.proofs.Counts.{entries_few, outputs_few, checkpoints_few}
+use Rattle.tm_system.proofs.Counts.{entries_few, outputs_few, checkpoints_few, checkpoints_count}
+use Rattle.tm_record.proofs.Consistent.{run_short}
 use Rattle.tm_record.proofs.Moments.{shape_tasks}
 use Rattle.tm_record.proofs.KeptLists.{holds_filled, checks_filled, holds_all, checks_all, chained_kept, runs_kept, ended_kept}
 use Rattle.tm_record.proofs.Histories.{IsGood, run_holding}

@@ -13,6 +13,7 @@ pub mod Walking
 pub mod Meeting
 pub mod Lengths
 pub mod Texts
+pub mod Counts
 pub mod Below
 pub mod Gaining
 mod Copied

@@ -31,7 +31,7 @@ use Rattle.tm_system.proofs.Lengths.{played_short}
 use Rattle.tm_record.specs.StandsFor.{RecorderView, IsReal}
 use Rattle.tm_record.specs.Window.{IsWindowOf}
 use Rattle.tm_record.proofs.WindowOf.{list_below}
-use Rattle.tm_record.proofs.Counts.{entries_few, outputs_few, checkpoints_few}
+use Rattle.tm_system.proofs.Counts.{entries_few, outputs_few, checkpoints_few}
 use Rattle.tm_record.proofs.WellFormed.{recorders_are_well_formed}
 use Rattle.tm_fidelity.proofs.Reading.{log_is, checks_is}
 use Rattle.tm_fidelity.proofs.Moving.{walks}

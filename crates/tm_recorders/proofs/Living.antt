@@ -42,9 +42,9 @@ use Rattle.tm_system.proofs.Below.{length-below, slice_get-below}
 use Rattle.tm_record.specs.StandsFor.{RecorderView, IsReal}
 use Rattle.tm_record.specs.Recording.{task_in, tail_of}
 use Rattle.tm_system.proofs.Following.{scripts_are_runs}
-use Rattle.tm_record.proofs.Consistent.{checkpoints_count}
+use Rattle.tm_system.proofs.Counts.{checkpoints_count}
 use Rattle.tm_record.proofs.WindowOf.{windows_are_of_runs}
-use Rattle.tm_fidelity.specs.Recorders.{TailsAreLive, CheckpointsAreLive, PointsAreLive}
+use Rattle.tm_recorders.specs.Recorders.{TailsAreLive, CheckpointsAreLive, PointsAreLive}
 use Rattle.tm_fidelity.proofs.Stories.{map-below}
 
 -- a list with these items

@@ -1,5 +1,5 @@
-use Rattle.tm_fidelity.proofs.Living.{tails_are_live, checkpoints_are_live, points_are_live}
-use Rattle.tm_fidelity.proofs.recorders.recorders_replay_to_live.Goals as goal
+use Rattle.tm_recorders.proofs.Living.{tails_are_live, checkpoints_are_live, points_are_live}
+use Rattle.tm_recorders.proofs.recorders.recorders_replay_to_live.Goals as goal
 
 pub returns-clause-tails : goal.returns-clause-tails
 returns-clause-tails c = tails_are_live

@@ -1,10 +1,11 @@
--- No list of a run is longer than the run, but for the boot's checkpoint.
-use Rattle.std.proofs.Common.{ℕ, suc, ◌+◌, ◌≤◌, Bool, true, false, ◌==◌, if◌then◌else◌, List, [], ◌∷◌, ◌++◌, length, Option, Some, None, arith, length-append}
+-- How long the lists of a run are: none is longer than the run, but for the boot's checkpoint; a task has one
+-- checkpoint for each epoch, and epochs only go up.
+use Rattle.std.proofs.Common.{◌≡◌, ℕ, suc, ◌+◌, ◌≤◌, Bool, true, false, ◌==◌, if◌then◌else◌, List, [], ◌∷◌, ◌++◌, length, Option, Some, None, refl, arith, length-append}
 use Rattle.std.specs.Prelude.{option_to_list}
 use Rattle.tm_image.specs.Image.{ImageView}
-use Rattle.tm_system.specs.History.{Deed, Arrives, Steps, Answers, Faulted, History}
+use Rattle.tm_system.specs.History.{Deed, Arrives, Steps, Answers, Faulted, Moment, History}
 use Rattle.tm_system.specs.Gaining.{checkpoint_at}
-use Rattle.tm_system.specs.Marks.{is_start, backs}
+use Rattle.tm_system.specs.Marks.{is_start, backs, epochs}
 use Rattle.tm_system.specs.Controls.{entries, entries_of, outputs, output_of, checkpoints, Checkpoint}
 
 at_most_one : {A : Type 0} (o : Option A) → length (option_to_list o) ≤ 1
@@ -42,3 +43,24 @@ unfolding checkpoints
 checkpoints_few image task [] = omega arith
 checkpoints_few image task (m ∷ h) =
     one_more (is_start task m.deed (backs task h)) (checkpoints image task h) (checkpoint_at image task m h) (length h) (checkpoints_few image task h)
+
+-- there is one checkpoint for each epoch
+one_each : (b : Bool) (xs : List Checkpoint) (x : Checkpoint) (n : ℕ) → length xs ≡ n + 1 →
+    length (if b then xs ++ x ∷ [] else xs) ≡ (if b then n + 1 else n) + 1
+one_each true xs x n e = omega (arith, length-append xs (x ∷ []))
+one_each false xs x n e = e
+
+pub checkpoints_count : (image : ImageView) (t : ℕ) (h : History) → length (checkpoints image t h) ≡ epochs t h + 1
+unfolding checkpoints epochs
+checkpoints_count image t [] = refl
+checkpoints_count image t (m ∷ h) =
+    one_each (is_start t m.deed (backs t h)) (checkpoints image t h) (checkpoint_at image t m h) (epochs t h) (checkpoints_count image t h)
+
+more_or_same : (b : Bool) (n : ℕ) → n ≤ (if b then n + 1 else n)
+more_or_same true n = omega arith
+more_or_same false n = omega arith
+
+-- no epoch goes down
+pub epochs_rise : (t : ℕ) (m : Moment) (h : History) → epochs t h ≤ epochs t (m ∷ h)
+unfolding epochs
+epochs_rise t m h = more_or_same (is_start t m.deed (backs t h)) (epochs t h)
