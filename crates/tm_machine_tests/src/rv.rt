@@ -1,7 +1,7 @@
 //! The table against words that another assembler made, apart from this crate.
 
 use std::test::Fail;
-use tm_rv::{Instr, Op, decode, encode, name};
+use tm_rv::{Code, Instr, Op, decode, encode, name};
 
 // A word, and what it is decoded to: operation, rd, rs1, rs2, and the immediate.
 static DECODED: [(u32, Op, [u8; 3], u32); 75] = [
@@ -148,4 +148,34 @@ fn other_words_are_refused(rt: HostRuntime) {
     for &word in &REFUSED {
         assert_eq!(rt; decode(word), None, "{word:08x}");
     }
+}
+
+/// A text that has grown has beside each word what the word is decoded to, and an EBREAK with the
+/// immediate 1 beside what is no instruction.
+#[test]
+fn a_code_has_the_instruction_of_each_word(rt: HostRuntime) -> Result<(), Fail> {
+    let wanted: [(u32, Op, [u8; 3], u32); 4] = [
+        (0x0062_8633, Op::Add, [12, 5, 6], 0), // add x12, x5, x6
+        (0x0000_0000, Op::Ebreak, [0, 0, 0], 1), // no instruction
+        (0x0010_0073, Op::Ebreak, [0, 0, 0], 0), // ebreak
+        (0xfff0_8093, Op::Addi, [1, 1, 0], 0xffff_ffff), // addi x1, x1, -1
+    ];
+    let mut code = Code::new(rt.alloc());
+    for &(word, ..) in &wanted {
+        code.extend(&[word])?;
+    }
+    let slices = code.slices();
+    assert_eq!(rt; slices.words().len(), wanted.len());
+    for (index, &(word, op, [rd, rs1, rs2], imm)) in wanted.iter().enumerate() {
+        assert!(rt; index < slices.words().len());
+        assert_eq!(rt; slices.words()[index], word);
+        let found = slices.at(index);
+        assert_eq!(rt; (found.op, found.imm), (op, imm), "{word:08x}");
+        assert_eq!(rt;
+            [found.rd, found.rs1, found.rs2],
+            [rd, rs1, rs2],
+            "{word:08x}"
+        );
+    }
+    Ok(())
 }

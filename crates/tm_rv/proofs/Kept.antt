@@ -1,5 +1,5 @@
 -- What is known of the instruction that is kept for a word.
-use Rattle.std.proofs.Common.{◌≡◌, refl, ℕ, ◌<◌, ◌%◌, ◌/◌, ◌^◌, Bool, false, Option, Some, None, arith}
+use Rattle.std.proofs.Common.{◌≡◌, refl, ℕ, false, Option, Some, None, arith}
 use Rattle.std.specs.Option.{option_map}
 use Rattle.tm_rv.specs.declared.instr.Op.{Op}
 use Rattle.tm_rv.specs.declared.instr.Op.TheVariants.{Ebreak}

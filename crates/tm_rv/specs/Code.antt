@@ -1,5 +1,5 @@
 -- The instruction that is kept for a word.
-use Rattle.std.specs.Prelude.{◌≡◌, ℕ, Bool, true, false, ◌==◌, ◌&&◌, Option, Some, None, IfSome}
+use Rattle.std.specs.Prelude.{◌≡◌, Bool, true, false, ◌==◌, ◌&&◌, Option, Some, None, IfSome}
 use Rattle.tm_rv.specs.declared.instr.Op.{Op}
 use Rattle.tm_rv.specs.declared.instr.Op.TheVariants.{Ebreak}
 use Rattle.tm_rv.specs.declared.instr.Instr.{Instr}

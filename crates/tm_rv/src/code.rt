@@ -70,16 +70,58 @@ impl Code {
         self.words.as_slice()
     }
 
+    /// The words and their instructions, for a loop over many of them.
+    #[inline]
+    pub fn slices(&self) -> CodeSlices<'_>
+        ensures { result ≡ self.now }
+    {
+        CodeSlices {
+            words: self.words.as_slice(),
+            instrs: self.instrs.as_slice(),
+        }
+    }
+}
+
+/// The words of a [`Code`] and their instructions as slices, which a loop keeps at hand: what it writes
+/// elsewhere can't move them.
+#[derive(Debug, Drop)]
+pub struct CodeSlices<'a> {
+    words: &'a [u32],
+    instrs: &'a [Instr],
+}
+
+impl<'a> Model for CodeSlices<'a> {
+    ghost use Rattle.std.specs.Prelude.{◌≡◌, List, ℕ, map};
+    ghost use Rattle.tm_rv.specs.Instr.{instr_of};
+    ghost use Rattle.tm_rv.specs.Code.{kept};
+
+    ghost Value = { List ℕ };
+
+    ghost view = { λ slices. slices.words.now };
+
+    ghost invariant = { λ slices. slices.instrs.now ≡ map (λ word. kept (instr_of word)) slices.words.now };
+}
+
+impl<'a> CodeSlices<'a> {
+    /// The words.
+    #[inline]
+    pub fn words(&self) -> &'a [u32]
+        ensures { result.now ≡ self.now }
+    {
+        self.words
+    }
+
     /// The instruction that the word at an index is. Where it is none: an EBREAK whose immediate is
     /// 1, which no word is decoded to.
     #[inline]
-    pub fn at(&self, index: usize) -> &Instr
+    pub fn at(&self, index: usize) -> &'a Instr
         requires { index < length self.now }
         ensures kept { result.now ≡ kept (instr_of (slice_index self.now index)) }
         ensures registers { HasRegisters result.now }
         ensures told { IsNeverNone (instr_of (slice_index self.now index)) }
     {
-        &self.instrs[index]
+        let instrs = self.instrs;
+        &instrs[index]
     }
 }
 
@@ -90,7 +132,7 @@ fn add_decoded(instrs: &mut Vec<Instr>, words: &[u32]) -> Result<(), AllocError>
 {
     let before = instrs.len();
     for word in words {
-        if let Err(error) = instrs.push(decoded(*word)) {
+        if let Err(error) = instrs.push(decode_or_none(*word)) {
             instrs.truncate(before);
             return Err(error.into());
         }
@@ -99,7 +141,7 @@ fn add_decoded(instrs: &mut Vec<Instr>, words: &[u32]) -> Result<(), AllocError>
 }
 
 /// The instruction that a word is, or what stands for none.
-fn decoded(word: u32) -> Instr
+fn decode_or_none(word: u32) -> Instr
     ensures { result ≡ kept (instr_of word) }
 {
     decode(word).unwrap_or(NONE)

@@ -2,7 +2,7 @@
 //! 2.3 "Immediate Encoding Variants").
 
 ghost use Rattle.std.specs.Prelude.{◌≡◌, ◌<◌};
-ghost use Rattle.tm_rv.specs.Table.{RType, IType, SType, BType, UType, JType, ShiftType, row_for};
+ghost use Rattle.tm_rv.specs.Table.{IType, SType, BType, UType, JType, ShiftType, row_for};
 ghost use Rattle.tm_rv.specs.Instr.{IsRegister, imm_of, rd_of, rs1_of, rs2_of, split};
 
 use crate::bits::field;

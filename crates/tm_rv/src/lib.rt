@@ -21,7 +21,7 @@ mod instr;
 mod names;
 mod table;
 
-pub use code::Code;
+pub use code::{Code, CodeSlices};
 pub use decoder::{decode, operation};
 pub use encoder::encode;
 pub use formats::{

@@ -1,13 +1,13 @@
 -- The instruction that is kept for a word does what the word does.
-use Rattle.std.proofs.Common.{◌≡◌, sym, subst, ℕ, ◌*◌, ◌/◌, ◌<◌, Bool, true, false, List, length, slice_index, Option, Some, None, arith}
+use Rattle.std.proofs.Common.{◌≡◌, sym, subst, ℕ, ◌*◌, ◌/◌, ◌<◌, Bool, true, List, length, slice_index, Option, Some, None, arith}
 use Rattle.std.specs.Prelude.{nat_lt, if◌then◌else◌}
 use Rattle.std.proofs.lemmas.Bool.Decides.{nat_tests}
 use Rattle.tm_marker.specs.declared.body.Body.{Body}
-use Rattle.tm_rv.specs.Code.{kept, is_none, IsNeverNone}
+use Rattle.tm_rv.specs.Code.{kept, IsNeverNone}
 use Rattle.tm_rv.specs.Instr.{instr_of}
 use Rattle.tm_rv.specs.declared.instr.Instr.{Instr}
 use Rattle.tm_task.specs.Does.{Does, exec_kept}
-use Rattle.tm_task.specs.Exec.{Exec, Faults, exec, exec_instr, exec_word}
+use Rattle.tm_task.specs.Exec.{Faults, exec, exec_instr, exec_word}
 use Rattle.tm_task.specs.declared.execute.Executed.{Executed}
 use Rattle.tm_task.specs.declared.outcome.Cause.TheVariants.{Illegal, Fetch}
 

@@ -4,6 +4,8 @@ use Rattle.tm_marker.specs.declared.body.Body.{Body}
 use Rattle.tm_marker.specs.declared.marker.Marker.{Marker}
 use Rattle.tm_marker.specs.declared.marker.TheConstants.{EPOCH_LENGTH}
 use Rattle.tm_marker.specs.declared.entries.DataEntry.{DataEntry}
+use Rattle.tm_marker.specs.declared.service.Service.TheVariants.{TerminateTask, ChainTask, WaitEvent}
+use Rattle.tm_marker.specs.Service.{service_number}
 use Rattle.tm_task.specs.Memory.{data_start}
 use Rattle.tm_task.specs.Exec.{reg, with_reg, advanced}
 
@@ -63,11 +65,13 @@ went s next true = if is_full s then next_epoch s next else record s { body = ne
 
 -- a successful TerminateTask or ChainTask
 abbrev pub is_end : DataEntry → Bool
-is_end d = (d.service == 2 || d.service == 3) && d.status == 0
+is_end d = (d.service == service_number TerminateTask || d.service == service_number ChainTask) && d.status == 0
 
 -- a successful TerminateTask, ChainTask or WaitEvent begins an epoch
 abbrev pub begins_epoch : DataEntry → Bool
-begins_epoch d = (d.service == 2 || d.service == 3 || d.service == 11) && d.status == 0
+begins_epoch d =
+    (d.service == service_number TerminateTask || d.service == service_number ChainTask || d.service == service_number WaitEvent) &&
+    d.status == 0
 
 -- the status in a0, the words in a1 to a4, and the next instruction
 abbrev pub resumed : Body → DataEntry → Body

@@ -5,14 +5,7 @@ ghost use Rattle.tm_task.specs.Standing.{boot_registers, begins_epoch, is_end, r
 
 use crate::DATA_START;
 use crate::registers::put;
-use tm_marker::{Body, DataEntry};
-
-/// The services TerminateTask, ChainTask and WaitEvent.
-const TERMINATE_TASK: u8 = 2;
-
-const CHAIN_TASK: u8 = 3;
-
-const WAIT_EVENT: u8 = 11;
+use tm_marker::{Body, DataEntry, Service};
 
 /// The registers of a task at boot: x2 is the end of its data words, the others are 0.
 pub(crate) fn boot_registers(words: usize) -> [u32; 31]
@@ -28,14 +21,18 @@ pub(crate) fn boot_registers(words: usize) -> [u32; 31]
 fn is_end(entry: &DataEntry) -> bool
     ensures { result ≡ is_end entry.now }
 {
-    (entry.service == TERMINATE_TASK || entry.service == CHAIN_TASK) && entry.status == 0
+    (entry.service == Service::TerminateTask.number()
+        || entry.service == Service::ChainTask.number())
+        && entry.status == 0
 }
 
 /// Whether the answer begins an epoch.
 pub(crate) fn begins_epoch(entry: &DataEntry) -> bool
     ensures { result ≡ begins_epoch entry.now }
 {
-    (entry.service == TERMINATE_TASK || entry.service == CHAIN_TASK || entry.service == WAIT_EVENT)
+    (entry.service == Service::TerminateTask.number()
+        || entry.service == Service::ChainTask.number()
+        || entry.service == Service::WaitEvent.number())
         && entry.status == 0
 }
 

@@ -1,6 +1,5 @@
 //! The instruction at a program counter, executed in place.
 
-ghost use Rattle.std.specs.Prelude.{◌≡◌};
 ghost use Rattle.tm_task.specs.Exec.{exec};
 ghost use Rattle.tm_task.specs.Parts.{body_at};
 ghost use Rattle.tm_task.specs.Does.{Does};
@@ -9,7 +8,7 @@ use crate::Cause;
 use crate::perform::perform;
 use crate::registers::Registers;
 use tm_marker::Items;
-use tm_rv::Code;
+use tm_rv::{Code, CodeSlices};
 
 /// What an instruction did to a body.
 #[derive(Clone, Copy)]
@@ -27,10 +26,10 @@ pub(crate) enum Executed {
 #[tactic(auto, unfolding(crate::specs::Exec::exec))]
 #[inline(always)]
 pub(crate) fn execute(
-    code: &Code,
+    code: &CodeSlices<'_>,
     pc: u32,
     regs: &mut Registers,
-    words: &mut Items<u32>,
+    words: &mut [u32],
 ) -> Executed
     ensures { Does (exec code.now (body_at pc regs.old words.old)) (body_at pc regs.old words.old) (body_at pc regs.new words.new) result }
 {
@@ -40,4 +39,22 @@ pub(crate) fn execute(
         return Executed::Faulted(Cause::Fetch);
     }
     perform(code.at(index), text, pc, regs, words)
+}
+
+/// One instruction to be executed, but for the data words.
+#[derive(Drop)]
+pub(crate) struct One<'a> {
+    pub code: &'a Code,
+    pub pc: u32,
+    pub regs: Registers,
+}
+
+/// Executes one instruction, and gives back the registers.
+pub(crate) fn execute_one(items: Items<u32>, one: One<'_>) -> (Items<u32>, (Executed, Registers))
+    ensures { Does (exec one.entry.code.now (body_at one.entry.pc one.entry.regs items)) (body_at one.entry.pc one.entry.regs items) (body_at one.entry.pc result.1.1 result.0) result.1.0 }
+{
+    let One { code, pc, mut regs } = one;
+    let mut words = Vec::from(items);
+    let executed = execute(&code.slices(), pc, &mut regs, words.as_mut_slice());
+    (Items::from(words), (executed, regs))
 }

@@ -1,9 +1,7 @@
 //! What an address of a task reaches, and the bytes of words.
 
-ghost use Rattle.std.specs.Prelude.{◌≡◌, ◌+◌, ◌-◌, ◌*◌, ◌/◌, ◌%◌, ◌^◌, ◌<◌, ◌≤◌, length, slice_index, nat_lt};
+ghost use Rattle.std.specs.Prelude.{◌≡◌, ◌+◌, ◌-◌, ◌*◌, ◌/◌, ◌%◌, ◌^◌, ◌<◌, ◌≤◌};
 ghost use Rattle.tm_task.specs.Memory.{data_start, in_text, in_data, part_of, spliced, IsSize};
-
-use tm_marker::Items;
 
 /// The address at which a task's data starts; its text starts at 0.
 pub const DATA_START: u32 = 0x1000_0000;
@@ -18,7 +16,7 @@ pub(crate) fn is_in_text(text: &[u32], address: u32) -> bool
 
 /// Whether the address is in the data.
 #[inline]
-pub(crate) fn is_in_data(words: &Items<u32>, address: u32) -> bool
+pub(crate) fn is_in_data(words: &[u32], address: u32) -> bool
     ensures { result ≡ in_data words.now address }
 {
     address >= DATA_START && data_index(address) < words.len()

@@ -1,10 +1,10 @@
 //! What each operation does to a body.
 
-ghost use Rattle.std.specs.Prelude.{◌≡◌, ◌+◌, ◌-◌, ◌*◌, ◌/◌, ◌%◌, ◌^◌, ◌<◌, ◌≤◌, IfOk, List, [], ℕ, length, false};
+ghost use Rattle.std.specs.Prelude.{◌≡◌, ◌+◌, ◌-◌, ◌*◌, ◌/◌, ◌%◌, ◌^◌, ◌<◌, IfOk, List, [], ℕ, false};
 ghost use Rattle.tm_rv.specs.Code.{HasRegisters};
 ghost use Rattle.tm_rv.specs.Instr.{sign_extend, IsRegister};
 ghost use Rattle.tm_task.specs.Memory.{IsSize};
-ghost use Rattle.tm_task.specs.Exec.{Goes, advanced, written, jumped, branched, fetched, loaded, stored, without_bit_0, shifted_signed, service_of, bit, is_less};
+ghost use Rattle.tm_task.specs.Exec.{Goes, written, jumped, branched, fetched, loaded, stored, without_bit_0, shifted_signed, service_of, bit, is_less};
 ghost use Rattle.tm_task.specs.Parts.{body_at, with_register};
 ghost use Rattle.tm_task.specs.Does.{Does, exec_kept};
 ghost use Rattle.tm_task.specs.declared.execute.Executed.TheVariants.{Went};
@@ -13,7 +13,6 @@ use crate::Cause;
 use crate::execute::Executed;
 use crate::memory::{data_index, is_in_data, is_in_text, part, splice};
 use crate::registers::Registers;
-use tm_marker::Items;
 use tm_rv::{Instr, Op};
 
 /// Performs an instruction on the parts of a body: its program counter, its registers and its data
@@ -24,7 +23,7 @@ pub(crate) fn perform(
     text: &[u32],
     pc: u32,
     regs: &mut Registers,
-    words: &mut Items<u32>,
+    words: &mut [u32],
 ) -> Executed
     requires { HasRegisters instr.now }
     ensures { Does (exec_kept text.now (body_at pc regs.old words.old) instr.now) (body_at pc regs.old words.old) (body_at pc regs.new words.new) result }
@@ -203,7 +202,7 @@ fn branch(pc: u32, imm: u32, taken: bool) -> Executed
 
 /// The number that 1, 2 or 4 bytes make at an address of the text or the data.
 #[inline]
-fn fetch(text: &[u32], words: &Items<u32>, address: u32, size: u32) -> Result<u32, Cause>
+fn fetch(text: &[u32], words: &[u32], address: u32, size: u32) -> Result<u32, Cause>
     requires { IsSize size }
     ensures value { result ≡ fetched text.now (body_at 0 [] words.now) address size }
     ensures small { IfOk result (λ value. value < 2 ^ (8 * size)) }
@@ -215,7 +214,7 @@ fn fetch(text: &[u32], words: &Items<u32>, address: u32, size: u32) -> Result<u3
     if is_in_text(text, address) {
         Ok(part(text[(address / 4) as usize], from, size))
     } else if is_in_data(words, address) {
-        Ok(part(words.at(data_index(address)), from, size))
+        Ok(part(words[data_index(address)], from, size))
     } else {
         Err(Cause::Range)
     }
@@ -226,7 +225,7 @@ fn load(
     text: &[u32],
     pc: u32,
     regs: &mut Registers,
-    words: &Items<u32>,
+    words: &[u32],
     rd: u8,
     address: u32,
     size: u32,
@@ -246,7 +245,7 @@ fn load_byte_signed(
     text: &[u32],
     pc: u32,
     regs: &mut Registers,
-    words: &Items<u32>,
+    words: &[u32],
     rd: u8,
     address: u32,
 ) -> Executed
@@ -265,7 +264,7 @@ fn load_half_signed(
     text: &[u32],
     pc: u32,
     regs: &mut Registers,
-    words: &Items<u32>,
+    words: &[u32],
     rd: u8,
     address: u32,
 ) -> Executed
@@ -280,14 +279,7 @@ fn load_half_signed(
 }
 
 #[inline]
-fn store(
-    text: &[u32],
-    pc: u32,
-    words: &mut Items<u32>,
-    address: u32,
-    value: u32,
-    size: u32,
-) -> Executed
+fn store(text: &[u32], pc: u32, words: &mut [u32], address: u32, value: u32, size: u32) -> Executed
     requires { IsSize size }
     ensures { (regs : List ℕ) → Does (stored text.now (body_at pc regs words.old) address size value) (body_at pc regs words.old) (body_at pc regs words.new) result }
 {
@@ -301,7 +293,7 @@ fn store(
         return Executed::Faulted(Cause::Range);
     }
     let index = data_index(address);
-    words.set(index, splice(words.at(index), address % 4, size, value));
+    words[index] = splice(words[index], address % 4, size, value);
     advance(pc)
 }
 

@@ -1,6 +1,6 @@
 //! The registers: as a body keeps them, and as the instructions of a run work on them.
 
-ghost use Rattle.std.specs.Prelude.{◌≡◌, ◌<◌, length};
+ghost use Rattle.std.specs.Prelude.{◌≡◌, length};
 ghost use Rattle.tm_rv.specs.Instr.{IsRegister};
 ghost use Rattle.tm_task.specs.Exec.{reg, with_reg};
 ghost use Rattle.tm_task.specs.Parts.{register, with_register};

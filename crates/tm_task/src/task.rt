@@ -8,9 +8,10 @@ ghost use Rattle.tm_marker.specs.Order.{IsBefore};
 
 use crate::Stepped;
 use crate::answer::{begins_epoch, boot_registers, reply};
-use crate::execute::{Executed, execute};
+use crate::execute::{Executed, One, execute_one};
 use crate::registers::{Registers, read};
-use crate::run::run;
+use crate::run::{Start, run};
+use core::mem;
 use std::alloc::{AllocError, Global};
 use std::marker::Model;
 use tm_marker::{Body, DataEntry, EPOCH_LENGTH, Items, Marker};
@@ -74,8 +75,13 @@ impl Task {
         ensures words { length self.new.standing.body.words ≡ length self.old.standing.body.words }
         ensures task { IsTask self.new }
     {
-        let mut regs = Registers::of(&self.body.regs);
-        match execute(code, self.body.pc, &mut regs, &mut self.body.words) {
+        let one = One {
+            code,
+            pc: self.body.pc,
+            regs: Registers::of(&self.body.regs),
+        };
+        let (executed, regs) = mem::replace_with(&mut self.body.words, one, execute_one);
+        match executed {
             Executed::Went { pc, back } => {
                 self.body.pc = pc;
                 regs.put_into(&mut self.body.regs);
@@ -113,20 +119,18 @@ impl Task {
         if self.count == EPOCH_LENGTH - 1 {
             return 0;
         }
-        let mut regs = Registers::of(&self.body.regs);
-        let (mut pc, mut count) = (self.body.pc, self.count);
-        let done = run(
+        let start = Start {
             code,
-            &mut pc,
-            &mut count,
-            &mut regs,
-            &mut self.body.words,
+            pc: self.body.pc,
+            count: self.count,
+            regs: Registers::of(&self.body.regs),
             most,
-        );
-        self.body.pc = pc;
-        regs.put_into(&mut self.body.regs);
-        self.count = count;
-        done
+        };
+        let end = mem::replace_with(&mut self.body.words, start, run);
+        self.body.pc = end.pc;
+        end.regs.put_into(&mut self.body.regs);
+        self.count = end.count;
+        end.done
     }
 
     /// What a call hands to its service: the registers a0 to a5.

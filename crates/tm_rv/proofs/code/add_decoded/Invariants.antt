@@ -1,4 +1,4 @@
-use Rattle.std.proofs.Common.{◌≡◌, ◌++◌, length, map, take}
+use Rattle.std.proofs.Common.{◌≡◌, ◌++◌, map, take}
 use Rattle.tm_rv.specs.Instr.{instr_of}
 use Rattle.tm_rv.specs.Code.{kept}
 use Rattle.tm_rv.proofs.code.add_decoded.Given as goal

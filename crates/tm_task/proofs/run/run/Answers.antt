@@ -1,70 +1,17 @@
-use Rattle.std.proofs.Common.{◌≡◌, ◌∙◌, refl, sym, subst, ap, inl, arith}
-use Rattle.std.proofs.lemmas.Bool.Decides.{nat_tests}
-use Rattle.tm_task.specs.Standing.{TaskView}
+use Rattle.std.proofs.Common.{◌≡◌, subst, List, ℕ, arith}
+use Rattle.std.proofs.lemmas.Grind.{common_steps}
+use Rattle.tm_task.specs.Parts.{body_at}
+use Rattle.tm_task.specs.Standing.{task_view}
 use Rattle.tm_task.specs.RunsOn.{HasStopped}
-use Rattle.tm_task.proofs.Running.{runs_none, runs_more, runs_and_stays, runs_as_many}
 use Rattle.tm_task.proofs.run.run.Goals as goal
 
-pub loop-done-init : goal.loop-done-init
-loop-done-init c =
-    record {
-      ran = λ entry epoch. runs_none _ _;
-      aligned = c.requires.aligned;
-      small = c.requires.small;
-      room = c.requires.room;
-      registers = refl;
-      words = refl;
-    }
+-- the data words that are given back are those that the run left
+words_back : (c : goal.After-from) → c.turns-done.new.words ≡ c.from.result
+words_back c = grind (arith, common_steps)
 
-pub loop-done-preserved : goal.loop-done-preserved
-loop-done-preserved c =
-    record {
-      ran = λ entry epoch. runs_more _ _ _ _ _ (c.loop-done.invariant.ran entry epoch) (c.in-On.ensures.turned entry epoch).did;
-      aligned = c.turn.ensures.aligned;
-      small = c.turn.ensures.small;
-      room = (c.in-On.ensures.turned 0 0).room;
-      registers = c.turn.ensures.registers ∙ c.loop-done.invariant.registers;
-      words = c.turn.ensures.words ∙ c.loop-done.invariant.words;
-    }
-
-pub returns-in-Last : goal.returns-in-Last
-returns-in-Last c =
-    let full = (c.in-Last.ensures.turned 0 0).full in
-    record {
-      within = omega arith;
-      ran = λ entry epoch. runs_more _ _ _ _ _ (c.loop-done.invariant.ran entry epoch) (c.in-Last.ensures.turned entry epoch).did;
-      stopped = λ _ entry epoch. inl (c.in-Last.ensures.turned entry epoch).full;
-      aligned = c.turn.ensures.aligned;
-      small = c.turn.ensures.small;
-      count = grind (arith, nat_tests, full);
-      registers = c.turn.ensures.registers ∙ c.loop-done.invariant.registers;
-      words = c.turn.ensures.words ∙ c.loop-done.invariant.words;
-    }
-
-pub returns-in-Stopped : goal.returns-in-Stopped
-returns-in-Stopped c =
-    let same : c.turn.new.count ≡ c.loop-done.count = ap (λ (t : TaskView). t.standing.count) (c.in-Stopped.ensures.turned 0 0).same in
-    record {
-      within = omega arith;
-      ran = λ entry epoch. runs_and_stays _ _ _ _ _ (c.loop-done.invariant.ran entry epoch) (c.in-Stopped.ensures.turned entry epoch).same;
-      stopped = λ _ entry epoch. subst (HasStopped c.args.code.now) (sym (c.in-Stopped.ensures.turned entry epoch).same) (c.in-Stopped.ensures.turned entry epoch).stopped;
-      aligned = c.turn.ensures.aligned;
-      small = c.turn.ensures.small;
-      count = omega arith;
-      registers = c.turn.ensures.registers ∙ c.loop-done.invariant.registers;
-      words = c.turn.ensures.words ∙ c.loop-done.invariant.words;
-    }
-
-pub returns : goal.returns
-returns c =
-    let all : c.loop-done.done ≡ c.args.most = omega arith in
-    record {
-      within = omega arith;
-      ran = λ entry epoch. runs_as_many _ _ _ _ _ all (c.loop-done.invariant.ran entry epoch);
-      stopped = λ less. absurd (omega arith);
-      aligned = c.loop-done.invariant.aligned;
-      small = c.loop-done.invariant.small;
-      count = omega arith;
-      registers = c.loop-done.invariant.registers;
-      words = c.loop-done.invariant.words;
-    }
+pub returns-clause-stopped : goal.returns-clause-stopped
+returns-clause-stopped c = λ less entry epoch.
+    subst (λ (words : List ℕ). HasStopped c.args.start.code.now (task_view entry (body_at c.turns-done.new.pc c.turns-done.new.regs words) epoch c.turns-done.new.count))
+    (words_back c)
+    (subst (λ (text : List ℕ). HasStopped text (task_view entry (body_at c.turns-done.new.pc c.turns-done.new.regs c.turns-done.new.words) epoch c.turns-done.new.count))
+    c.slices.ensures (c.turns-done.ensures.stopped less entry epoch))

@@ -3,7 +3,7 @@ use Rattle.tm_marker.specs.declared.marker.TheConstants.{EPOCH_LENGTH}
 use Rattle.tm_task.specs.Parts.{body_at}
 use Rattle.tm_task.specs.Standing.{task_view}
 use Rattle.tm_task.specs.RunsOn.{RunsOn}
-use Rattle.tm_task.proofs.run.run.Given as goal
+use Rattle.tm_task.proofs.run.turns.Given as goal
 
 abbrev pub invariant-loop-done : goal.invariant-loop-done
 invariant-loop-done l = record {
