@@ -3,3 +3,4 @@ pub mod Plant
 pub mod Plays
 pub mod Tape
 pub mod Room
+pub mod Examples

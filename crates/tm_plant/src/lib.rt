@@ -14,11 +14,13 @@
 //! ```
 #![tactic(auto)]
 
+mod examples;
 mod laws;
 mod plant;
 mod said;
 mod tape;
 
+pub use examples::{limits_are, plant_examples, plant_limits, plays_examples, tape_examples};
 pub use laws::{plant_faults_are_first, plants_are_never_memory, tapes_are_read};
 pub use plant::{
     Act, MOST_ACTS, MOST_DEVICES, MOST_RAISES, MOST_TURNS, Plant, PlantFault, read_plant,
