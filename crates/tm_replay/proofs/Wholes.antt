@@ -60,12 +60,11 @@ told_tracks n f tracks all =
     sym (length-map tracks track_view) ∙ ap length all.told ∙ length-map all.tracings track_of ∙ told_many n f all.tracings all.replay
 
 -- an error of a task is one of all
-pub tells_error : (image : ImageView) (w : WindowView) (p n : ℕ) (tracks : List Track) (fault : ReplayFault) →
-    AreTold (all_below n (replayed_task image w p)) tracks → n < length w.shape.words → Tells (replayed_task image w p n) (Err fault) →
-    TellsAll image w p (Err fault)
-tells_error image w p n tracks (Lost l) all within one = one
-tells_error image w p n tracks (HasDiverged d) all within one = told_error n (length w.shape.words) (replayed_task image w p) tracks d all one within
-tells_error image w p n tracks Memory all within one = tt
+pub tells_error : (n m : ℕ) (f : ℕ → Result Tracing Diverged) (tracks : List Track) (fault : ReplayFault) → AreTold (all_below n f) tracks →
+    n < m → Tells (f n) (Err fault) → TellsAll (all_below m f) (Err fault)
+tells_error n m f tracks (Lost l) all within one = one
+tells_error n m f tracks (HasDiverged d) all within one = told_error n m f tracks d all one within
+tells_error n m f tracks Memory all within one = tt
 
 -- a task that diverges is the whole's answer
 pub task_differs : (image : ImageView) (w : WindowView) (p : ℕ) (d : Diverged) → replayed_tasks image w p ≡ Err d → replayed image w p ≡ Err d
@@ -73,8 +72,8 @@ unfolding replayed
 task_differs image w p d is = ap (with_outputs w p) is
 
 -- and so is every error
-pub all_answers : (image : ImageView) (w : WindowView) (p : ℕ) (fault : ReplayFault) → lost_of w p ≡ None → TellsAll image w p (Err fault) →
-    Answers image w p (Err fault)
+pub all_answers : (image : ImageView) (w : WindowView) (p : ℕ) (fault : ReplayFault) → lost_of w p ≡ None →
+    TellsAll (replayed_tasks image w p) (Err fault) → Answers image w p (Err fault)
 all_answers image w p (Lost l) accepted one = absurd one
 all_answers image w p (HasDiverged d) accepted one = (accepted, task_differs image w p d one)
 all_answers image w p Memory accepted one = tt

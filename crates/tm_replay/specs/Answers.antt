@@ -37,16 +37,16 @@ Answers image w point (Err (Lost lost)) = lost_of w point ≡ Some lost
 Answers image w point (Err (HasDiverged d)) = (lost_of w point ≡ None) × (replayed image w point ≡ Err d)
 Answers image w point (Err Memory) = Unit {0}
 
--- the replays of all tasks, and what the text tells of them
+-- the replays of tasks one after another, and what the text tells of them
 pub record AreTold (replays : Result (List Tracing) Diverged) (tracks : List Track) : Type 0 where
   pub tracings : List Tracing
   pub replay : replays ≡ Ok tracings
   pub told : map track_view tracks ≡ map track_of tracings
 
--- of all tasks of an accepted point: what the text tells of them, or the first demand that the least task
--- doesn't meet that has one
-abbrev pub TellsAll : ImageView → WindowView → ℕ → Result (List Track) ReplayFault → Type 0
-TellsAll image w point (Ok tracks) = AreTold (replayed_tasks image w point) tracks
-TellsAll image w point (Err (Lost lost)) = ⊥
-TellsAll image w point (Err (HasDiverged d)) = replayed_tasks image w point ≡ Err d
-TellsAll image w point (Err Memory) = Unit {0}
+-- of tasks that come to these replays one after another: what the text tells of them, or the first demand
+-- that isn't met by the least task that has one
+abbrev pub TellsAll : Result (List Tracing) Diverged → Result (List Track) ReplayFault → Type 0
+TellsAll replays (Ok tracks) = AreTold replays tracks
+TellsAll replays (Err (Lost lost)) = ⊥
+TellsAll replays (Err (HasDiverged d)) = replays ≡ Err d
+TellsAll replays (Err Memory) = Unit {0}

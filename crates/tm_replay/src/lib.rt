@@ -15,5 +15,5 @@ mod whole;
 
 pub use fault::ReplayFault;
 pub use outputs::other_output;
-pub use task::replay_task;
-pub use whole::replay;
+pub use task::{replay_accepted, replay_task};
+pub use whole::{replay, replay_of};

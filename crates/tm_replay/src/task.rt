@@ -43,7 +43,12 @@ pub fn replay_task(
     replay_accepted(alloc, window, image, point, task)
 }
 
-/// The same of a point that is accepted.
+/// What one task of a window did from a point on that [`accepts`] accepts; else as [`replay_task`].
+///
+/// # Errors
+///
+/// `Diverged` with the first demand that the task doesn't meet, `Memory` where there is too little memory for
+/// the task and its track.
 pub fn replay_accepted(
     alloc: Global,
     window: &Window,

@@ -1,11 +1,11 @@
 //! The replay of all tasks of a window.
 
-ghost use Rattle.std.specs.Prelude.{◌≡◌, None};
-ghost use Rattle.tm_image.specs.Image.{shape_of};
+ghost use Rattle.std.specs.Prelude.{◌≡◌, ◌≢◌, length, None, Err};
+ghost use Rattle.tm_image.specs.Image.{ImageView, shape_of};
 ghost use Rattle.tm_log.specs.WellFormed.{IsWellFormed};
 ghost use Rattle.tm_points.specs.Finder.{lost_of};
-ghost use Rattle.tm_system.specs.Replaying.{runs_at_point};
-ghost use Rattle.tm_replay.specs.Answers.{Answers, TellsAll};
+ghost use Rattle.tm_system.specs.Replaying.{replayed_tasks, runs_at_point};
+ghost use Rattle.tm_replay.specs.Answers.{Answers, AreTold, TellsAll};
 
 use crate::ReplayFault;
 use crate::outputs::other_output;
@@ -36,18 +36,9 @@ pub fn replay(
     ensures { Answers image.now window.now point result }
 {
     accepts(window, point)?;
-    let tracks = match replay_tasks(alloc, window, image, point) {
-        Ok(tracks) => tracks,
-        Err(fault) => return Err(fault),
-    };
-    let replay = Replay {
-        from: point,
-        running: runs_at_point(window.control(), point),
-        tracks,
-    };
-    match other_output(&replay, window) {
-        Some(other) => Err(ReplayFault::Diverged(other)),
-        None => Ok(replay),
+    match replay_tasks(alloc, window, image, point) {
+        Ok(tracks) => replay_of(window, point, tracks),
+        Err(fault) => Err(fault),
     }
 }
 
@@ -60,7 +51,7 @@ fn replay_tasks(
 ) -> Result<Items<Track>, ReplayFault>
     requires formed { IsWellFormed window.now (shape_of image.now) }
     requires accepted { lost_of window.now point ≡ None }
-    ensures { TellsAll image.now window.now point result }
+    ensures { TellsAll (replayed_tasks image.now window.now point) result }
 {
     let mut tracks = Items::new(alloc);
     for task in 0..window.tasks() {
@@ -70,6 +61,28 @@ fn replay_tasks(
         }
     }
     Ok(tracks)
+}
+
+/// The replay that the tracks of all tasks make, of a point that is accepted. It takes no memory.
+///
+/// # Errors
+///
+/// `Diverged` with the oldest output that isn't the one that the window has in its place.
+pub fn replay_of(window: &Window, point: u64, tracks: Items<Track>) -> Result<Replay, ReplayFault>
+    requires accepted { lost_of window.now point ≡ None }
+    requires tasks { length tracks ≡ length window.now.shape.words }
+    ensures answers { (image : ImageView) → AreTold (replayed_tasks image window.now point) tracks → Answers image window.now point result }
+    ensures memory { result ≢ Err ReplayFault.Memory }
+{
+    let replay = Replay {
+        from: point,
+        running: runs_at_point(window.control(), point),
+        tracks,
+    };
+    match other_output(&replay, window) {
+        Some(other) => Err(ReplayFault::Diverged(other)),
+        None => Ok(replay),
+    }
 }
 
 /// Who runs at a point: nobody at boot, else whom the point's own control entry goes to.
