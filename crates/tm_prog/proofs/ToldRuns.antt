@@ -1,5 +1,5 @@
 -- The plain answers to `points` and `replay` on the dump of a run.
-use Rattle.std.proofs.Common.{◌≡◌, ℕ, ◌+◌, ◌≤◌, Bool, true, false, nat_le, List, length, filter, Option, Some, None, Result, Ok, Err, IsTrue, ◌⊎◌, inl, inr, refl, sym, ap, ◌∙◌, subst, arith}
+use Rattle.std.proofs.Common.{◌≡◌, ℕ, ◌+◌, Bool, true, false, nat_le, List, length, filter, Option, Some, None, Result, Ok, Err, IsTrue, ◌⊎◌, inl, inr, refl, sym, ap, ◌∙◌, subst, arith}
 use Rattle.std.specs.Prelude.{is_none, is_some, IsOk, if◌then◌else◌}
 use Rattle.std.specs.List.{flat_map}
 use Rattle.std.proofs.lemmas.Bool.Decides.{nat_tests}
@@ -26,6 +26,7 @@ use Rattle.tm_widths.specs.Numbers.{FitsImage}
 use Rattle.tm_widths.specs.Legible.{IsScript}
 use Rattle.tm_widths.proofs.Images.{images_fit}
 use Rattle.tm_widths.proofs.Windows.{dumps_of_runs_are_read}
+use Rattle.tm_widths.proofs.Shortness.{dumps_of_runs_are_short}
 use Rattle.tm_fidelity.proofs.Accepting.{scripts_are_found}
 use Rattle.tm_fidelity.proofs.Closing.{replays_are_faithful}
 use Rattle.tm_prog.specs.declared.limits.TheConstants.{IMAGE_LIMIT, DUMP_LIMIT}
@@ -37,7 +38,7 @@ use Rattle.tm_prog.specs.Files.{said, image_said, image_in, window_file_in}
 use Rattle.tm_prog.specs.RecordCommand.{dump_of_run}
 use Rattle.tm_prog.specs.PointsCommand.{points_made, point_line}
 use Rattle.tm_prog.specs.ReplayCommand.{told_from, unless_lost, replay_made}
-use Rattle.tm_prog.specs.RunDumps.{HaveDumpOfRun, AreAccepted}
+use Rattle.tm_prog.specs.RunDumps.{HaveDumpOfRun, RunDumpsFit, AreAccepted}
 
 -- what a text's lines make is an image
 pub image_read_is : (bytes : List ℕ) (image : ImageView) → image_of bytes ≡ Ok image → IsImage image
@@ -79,11 +80,14 @@ pub file_is_image : (file : Option (List ℕ)) (image : ImageView) → image_in 
 file_is_image file image e =
     let s = spells_image file image e in image_read_is s.bytes image s.spelled
 
+pub run_dumps_fit : RunDumpsFit
+run_dumps_fit = dumps_of_runs_are_short
+
 -- the dump of a run is read as the run's window
 dump_read : (image : ImageView) (script : List Slice) → IsImage image → FitsImage image → IsScript script →
-    length (dump_of_run image script) ≤ DUMP_LIMIT →
     window_file_in image (Some (dump_of_run image script)) ≡ Some (Ok (window_of image (run image script)))
-dump_read image script is fits script_is within =
+dump_read image script is fits script_is =
+    let within = run_dumps_fit image script is fits script_is in
     let short : nat_le (length (dump_of_run image script)) DUMP_LIMIT ≡ true = grind (arith, nat_tests) in
     rw (short, dumps_of_runs_are_read image script is fits script_is) refl
 
@@ -93,7 +97,7 @@ pub files_read : {A : Type 0} (content : List ℕ → Option (List ℕ)) (image_
     (image_in (content image_name) >>= λ i. window_file_in i (content dump_name) >>= λ w. next i w) ≡ next image (window_of image (run image script))
 files_read content image_name dump_name image script next h =
     let is = file_is_image (content image_name) image h.image_there in
-    rw (h.image_there, h.dump_there, dump_read image script is (file_fits (content image_name) image h.image_there) h.script_is h.within) refl
+    rw (h.image_there, h.dump_there, dump_read image script is (file_fits (content image_name) image h.image_there) h.script_is) refl
 
 -- a window that fits tells its text
 pub fits_tell : (image : ImageView) (w : WindowView) (point : ℕ) (r : Result (List Tracing) Diverged) → IsOk r →

@@ -2,11 +2,12 @@
 use Rattle.std.specs.Prelude.{◌≡◌, ℕ, ◌+◌, ◌≤◌, ◌⊎◌, ◌↔◌, Bool, true, List, length, filter, Option, Some, Ok}
 use Rattle.std.specs.List.{range_with_len, flat_map}
 use Rattle.tm_marker.specs.declared.entries.Slice.{Slice}
-use Rattle.tm_image.specs.Image.{ImageView}
+use Rattle.tm_image.specs.Image.{ImageView, IsImage}
 use Rattle.tm_system.specs.Run.{run}
 use Rattle.tm_system.specs.Controls.{controls}
 use Rattle.tm_system.specs.Telling.{text_of_run}
 use Rattle.tm_system.specs.Accepted.{IsAccepted}
+use Rattle.tm_widths.specs.Numbers.{FitsImage}
 use Rattle.tm_widths.specs.Legible.{IsScript}
 use Rattle.tm_prog.specs.declared.limits.TheConstants.{DUMP_LIMIT}
 use Rattle.tm_prog.specs.declared.status.Status.{Status}
@@ -20,12 +21,16 @@ use Rattle.tm_prog.specs.PointsCommand.{point_line}
 use Rattle.tm_prog.specs.World.{World, all_done, IsHalfDone, IsReady}
 use Rattle.tm_prog.specs.Outcome.{NoneRose, IsDone}
 
--- the files have an image, and the dump of a script's run on it, within the limit of a dump
+-- the files have an image, and the dump of a script's run on it
 pub record HaveDumpOfRun (content : List ℕ → Option (List ℕ)) (image_name dump_name : List ℕ) (image : ImageView) (script : List Slice) : Type 0 where
   pub image_there : image_in (content image_name) ≡ Some (Ok image)
   pub dump_there : content dump_name ≡ Some (dump_of_run image script)
-  pub within : length (dump_of_run image script) ≤ DUMP_LIMIT
   pub script_is : IsScript script
+
+-- the dump of every run is within the limit of a dump's file
+abbrev pub RunDumpsFit : Type 0
+RunDumpsFit = (image : ImageView) (script : List Slice) → IsImage image → FitsImage image → IsScript script →
+    length (dump_of_run image script) ≤ DUMP_LIMIT
 
 -- the call asks for a replay of the dump of a run, from a point
 pub record IsReplayOf (command : Option Command) (content : List ℕ → Option (List ℕ)) (image : ImageView) (script : List Slice) (point : ℕ) : Type 0 where

@@ -37,7 +37,7 @@ mod words;
 use command::command_of;
 use commands::made_of;
 use deliver::deliver;
-pub use limits::{DUMP_LIMIT, IMAGE_LIMIT, PLAN_LIMIT, limits_are};
+pub use limits::{DUMP_LIMIT, IMAGE_LIMIT, PLAN_LIMIT, limits_are, run_dumps_fit};
 pub use status::Status;
 use std::alloc::Global;
 use std::thread::Threads;
