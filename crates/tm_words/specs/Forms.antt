@@ -1,0 +1,14 @@
+-- What the texts of a form ask for.
+use Rattle.std.specs.Prelude.{[], ◌∷◌, Option, Some}
+use Rattle.tm_words.specs.declared.kind.Kind.TheVariants as kind
+use Rattle.tm_words.specs.declared.form.Form.{Form}
+use Rattle.tm_words.specs.declared.form.Form.TheVariants as form
+use Rattle.tm_words.specs.declared.command.Command.{Command}
+use Rattle.tm_words.specs.Command.{asked}
+
+abbrev pub asked_by : Form → Option Command
+asked_by (form.Trace image plan) = asked kind.Trace (image.now ∷ plan.now ∷ []) []
+asked_by (form.Record image plan dump) = asked kind.Record (image.now ∷ plan.now ∷ dump.now ∷ []) []
+asked_by (form.Points image dump) = asked kind.Points (image.now ∷ dump.now ∷ []) []
+asked_by (form.Replay image dump from workers) = asked kind.Replay (image.now ∷ dump.now ∷ []) (Some from.now ∷ Some workers.now ∷ [])
+asked_by (form.Make number) = asked kind.Make (number.now ∷ []) []

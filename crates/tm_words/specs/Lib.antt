@@ -1,0 +1,6 @@
+pub mod Words
+pub mod Numbers
+pub mod Command
+pub mod Scans
+pub mod Forms
+pub mod Parsers

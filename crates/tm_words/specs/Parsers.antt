@@ -1,0 +1,41 @@
+-- The parsers that read the texts of each form, and the words that they are handed: options with their values
+-- behind `=`, then `--`, then the names.
+use Rattle.std.specs.Prelude.{ℕ, List, [], ◌∷◌, ◌++◌, codes, Some}
+use Rattle.clap.specs.Words.{App, Rule, new_app, new_rule, with_rule}
+
+-- an option that takes a text
+abbrev pub option_rule : List ℕ → Rule
+option_rule name = record (new_rule name) { long = Some name }
+
+abbrev pub trace_parser : App
+trace_parser = with_rule (with_rule (new_app (codes "trace")) (new_rule (codes "image"))) (new_rule (codes "plan"))
+
+abbrev pub trace_words : List ℕ → List ℕ → List (List ℕ)
+trace_words image plan = codes "trace" ∷ codes "--" ∷ image ∷ plan ∷ []
+
+abbrev pub record_parser : App
+record_parser = with_rule (with_rule (with_rule (new_app (codes "record")) (new_rule (codes "image"))) (new_rule (codes "plan"))) (new_rule (codes "dump"))
+
+abbrev pub record_words : List ℕ → List ℕ → List ℕ → List (List ℕ)
+record_words image plan dump = codes "record" ∷ codes "--" ∷ image ∷ plan ∷ dump ∷ []
+
+abbrev pub points_parser : App
+points_parser = with_rule (with_rule (new_app (codes "points")) (new_rule (codes "image"))) (new_rule (codes "dump"))
+
+abbrev pub points_words : List ℕ → List ℕ → List (List ℕ)
+points_words image dump = codes "points" ∷ codes "--" ∷ image ∷ dump ∷ []
+
+abbrev pub replay_parser : App
+replay_parser =
+    with_rule (with_rule (with_rule (with_rule (new_app (codes "replay")) (option_rule (codes "from"))) (option_rule (codes "workers")))
+    (new_rule (codes "image"))) (new_rule (codes "dump"))
+
+abbrev pub replay_words : List ℕ → List ℕ → List ℕ → List ℕ → List (List ℕ)
+replay_words image dump from workers =
+    codes "replay" ∷ (codes "--from=" ++ from) ∷ (codes "--workers=" ++ workers) ∷ codes "--" ∷ image ∷ dump ∷ []
+
+abbrev pub make_parser : App
+make_parser = with_rule (new_app (codes "make")) (new_rule (codes "number"))
+
+abbrev pub make_words : List ℕ → List (List ℕ)
+make_words number = codes "make" ∷ codes "--" ∷ number ∷ []

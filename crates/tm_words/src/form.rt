@@ -1,0 +1,105 @@
+//! The forms of a call, by the texts that it gives.
+
+ghost use Rattle.std.specs.Prelude.{◌≡◌, [], IfSome, IsSome, option_and_then};
+ghost use Rattle.tm_words.specs.declared.kind.Kind.TheVariants as kind;
+ghost use Rattle.tm_words.specs.Command.{form_of, options_of};
+ghost use Rattle.tm_words.specs.Forms.{asked_by};
+
+use crate::kind::Kind;
+use crate::numbers::{point_in, seed_in, workers_in};
+use crate::parts::Parts;
+
+/// The texts of a call that is of a form.
+#[derive(Drop)]
+pub(crate) enum Form<'a> {
+    Trace {
+        image: &'a str,
+        plan: &'a str,
+    },
+    Record {
+        image: &'a str,
+        plan: &'a str,
+        dump: &'a str,
+    },
+    Points {
+        image: &'a str,
+        dump: &'a str,
+    },
+    Replay {
+        image: &'a str,
+        dump: &'a str,
+        from: &'a str,
+        workers: &'a str,
+    },
+    Make {
+        number: &'a str,
+    },
+}
+
+/// The form that the parts of the words behind the first have.
+pub(crate) fn form_of(kind: Kind, parts: Parts<'_>) -> Option<Form<'_>>
+    ensures same { option_and_then asked_by result ≡ form_of kind parts.entry }
+    ensures sure { IfSome result (λ form. IsSome (asked_by form)) }
+{
+    match kind {
+        Kind::Replay => replay_form(parts),
+        _ => plain_form(kind, &parts),
+    }
+}
+
+/// A form without options.
+fn plain_form<'a>(kind: Kind, parts: &Parts<'a>) -> Option<Form<'a>>
+    requires { options_of kind ≡ [] }
+    ensures same { option_and_then asked_by result ≡ form_of kind parts.now }
+    ensures sure { IfSome result (λ form. IsSome (asked_by form)) }
+{
+    if !parts.has_no_options() {
+        return None;
+    }
+    match (kind, parts.names()) {
+        (Kind::Trace, [image, plan]) => Some(Form::Trace {
+            image: image.get(),
+            plan: plan.get(),
+        }),
+        (Kind::Record, [image, plan, dump]) => Some(Form::Record {
+            image: image.get(),
+            plan: plan.get(),
+            dump: dump.get(),
+        }),
+        (Kind::Points, [image, dump]) => Some(Form::Points {
+            image: image.get(),
+            dump: dump.get(),
+        }),
+        (Kind::Make, [number]) if seed_in(number.get()).is_some() => Some(Form::Make {
+            number: number.get(),
+        }),
+        _ => None,
+    }
+}
+
+/// `replay IMAGE DUMP --from P [--workers W]`
+fn replay_form(mut parts: Parts<'_>) -> Option<Form<'_>>
+    ensures same { option_and_then asked_by result ≡ form_of kind.Replay parts.entry }
+    ensures sure { IfSome result (λ form. IsSome (asked_by form)) }
+{
+    let from = parts.take("--from");
+    let workers = match parts.take("--workers") {
+        Some(workers) => workers.get(),
+        None => "1",
+    };
+    if !parts.has_no_options() {
+        return None;
+    }
+    match (parts.names(), from) {
+        ([image, dump], Some(from))
+            if point_in(from.get()).is_some() && workers_in(workers).is_some() => {
+            Some(Form::Replay {
+                image: image.get(),
+                dump: dump.get(),
+                from: from.get(),
+                workers,
+            })
+        }
+        _ => None,
+    }
+}

@@ -1,0 +1,44 @@
+//! The commands, by their first words.
+
+ghost use Rattle.std.specs.Prelude.{◌≡◌};
+ghost use Rattle.tm_words.specs.Command.{first_word, kind_of};
+
+/// The commands.
+#[derive(Clone, Copy)]
+pub(crate) enum Kind {
+    Trace,
+    Record,
+    Points,
+    Replay,
+    Make,
+}
+
+const KINDS: [Kind; 5] = [
+    Kind::Trace,
+    Kind::Record,
+    Kind::Points,
+    Kind::Replay,
+    Kind::Make,
+];
+
+impl Kind {
+    fn first_word(self) -> &'static str
+        ensures { result.now ≡ first_word self }
+    {
+        match self {
+            Kind::Trace => "trace",
+            Kind::Record => "record",
+            Kind::Points => "points",
+            Kind::Replay => "replay",
+            Kind::Make => "make",
+        }
+    }
+}
+
+/// The command that a first word chooses.
+#[tactic(auto, unfolding(crate::specs::Command::kind_of))]
+pub(crate) fn kind_of(word: &str) -> Option<Kind>
+    ensures { result ≡ kind_of word.now }
+{
+    KINDS.iter().copied().find(|kind| kind.first_word() == word)
+}

@@ -1,0 +1,166 @@
+//! The texts of a form, read by `clap` in the order that each parser takes: the options with their values,
+//! then `--`, then the names. So a parse fails for want of memory alone.
+
+ghost use Rattle.std.specs.Prelude.{◌≡◌, ℕ, List, [], ◌∷◌, ◌++◌, Some, IfOk, IsSome, codes, drop, map, true};
+ghost use Rattle.clap.specs.Words.{app_of, is_simple, takes, matches_of, first_of, found_of, first_value, kind_of};
+ghost use Rattle.clap.specs.declared.error.kind.ErrorKind.TheVariants.{OutOfMemory};
+ghost use Rattle.tm_words.specs.declared.kind.Kind.TheVariants as kind;
+ghost use Rattle.tm_words.specs.Command.{asked};
+ghost use Rattle.tm_words.specs.Forms.{asked_by};
+
+use crate::command::Command;
+use crate::form::Form;
+use crate::numbers::{point_in, seed_in, workers_in};
+use crate::parsers::{make_parser, points_parser, record_parser, replay_parser, trace_parser};
+use crate::text::Name;
+use clap::{ArgMatches, Command as Parser, Error};
+use std::alloc::{AllocError, Global};
+
+/// What the texts of a form ask for.
+pub(crate) fn read(alloc: Global, form: &Form<'_>) -> Result<Option<Command>, AllocError>
+    ensures { IfOk result (λ command. command ≡ asked_by form.now) }
+{
+    match form {
+        Form::Trace { image, plan } => Ok(Some(read_trace(alloc, image, plan)?)),
+        Form::Record { image, plan, dump } => Ok(Some(read_record(alloc, image, plan, dump)?)),
+        Form::Points { image, dump } => Ok(Some(read_points(alloc, image, dump)?)),
+        Form::Replay {
+            image,
+            dump,
+            from,
+            workers,
+        } => read_replay(alloc, image, dump, from, workers),
+        Form::Make { number } => read_make(alloc, number),
+    }
+}
+
+/// The matches of words that a parser takes.
+fn matches_of<'a>(parser: Parser<'a>, words: &'a [&'a str]) -> Result<ArgMatches<'a>, AllocError>
+    requires simple { is_simple (app_of parser) ≡ true }
+    requires taken { takes (app_of parser) (map (λ word. word.now) words.now) ≡ true }
+    ensures { IfOk result (λ matches. (name : List ℕ) →
+        first_value (found_of matches) name ≡ first_of name (matches_of (app_of parser.entry) (map (λ word. word.now) words.entry.now))) }
+{
+    match parser.try_get_matches_from(words) {
+        Ok(matches) => Ok(matches),
+        Err(error) => Err(starved(error)),
+    }
+}
+
+/// Want of memory, the one way in which a parse fails here.
+fn starved(_error: Error) -> AllocError
+    requires { kind_of _error ≡ OutOfMemory }
+{
+    AllocError
+}
+
+/// The text of an argument, which the parser was given.
+fn text_in<'a>(matches: &ArgMatches<'a>, name: &str) -> &'a str
+    requires { IsSome (first_value (found_of matches.now) name.now) }
+    ensures { Some result.now ≡ first_value (found_of matches.now) name.now }
+{
+    match matches.get_str(name) {
+        Some(text) => text,
+        None => unreachable!(),
+    }
+}
+
+/// The same as a name.
+fn name_in(alloc: Global, matches: &ArgMatches<'_>, name: &str) -> Result<Name, AllocError>
+    requires { IsSome (first_value (found_of matches.now) name.now) }
+    ensures { IfOk result (λ given. Some given ≡ first_value (found_of matches.now) name.now) }
+{
+    Name::new(alloc, text_in(matches, name))
+}
+
+fn read_trace(alloc: Global, image: &str, plan: &str) -> Result<Command, AllocError>
+    ensures { IfOk result (λ command. Some command ≡ asked kind.Trace (image.now ∷ plan.now ∷ []) []) }
+{
+    let words = ["trace", "--", image, plan];
+    let matches = matches_of(trace_parser(alloc)?, &words)?;
+    let image = name_in(alloc, &matches, "image")?;
+    let plan = name_in(alloc, &matches, "plan")?;
+    Ok(Command::Trace { image, plan })
+}
+
+fn read_record(alloc: Global, image: &str, plan: &str, dump: &str) -> Result<Command, AllocError>
+    ensures { IfOk result (λ command. Some command ≡ asked kind.Record (image.now ∷ plan.now ∷ dump.now ∷ []) []) }
+{
+    let words = ["record", "--", image, plan, dump];
+    let matches = matches_of(record_parser(alloc)?, &words)?;
+    let image = name_in(alloc, &matches, "image")?;
+    let plan = name_in(alloc, &matches, "plan")?;
+    let dump = name_in(alloc, &matches, "dump")?;
+    Ok(Command::Record { image, plan, dump })
+}
+
+fn read_points(alloc: Global, image: &str, dump: &str) -> Result<Command, AllocError>
+    ensures { IfOk result (λ command. Some command ≡ asked kind.Points (image.now ∷ dump.now ∷ []) []) }
+{
+    let words = ["points", "--", image, dump];
+    let matches = matches_of(points_parser(alloc)?, &words)?;
+    let image = name_in(alloc, &matches, "image")?;
+    let dump = name_in(alloc, &matches, "dump")?;
+    Ok(Command::Points { image, dump })
+}
+
+fn read_replay(
+    alloc: Global,
+    image: &str,
+    dump: &str,
+    from: &str,
+    workers: &str,
+) -> Result<Option<Command>, AllocError>
+    ensures { IfOk result (λ command. command ≡ asked kind.Replay (image.now ∷ dump.now ∷ []) (Some from.now ∷ Some workers.now ∷ [])) }
+{
+    let from = format!(in alloc; "--from={from}")?;
+    let workers = format!(in alloc; "--workers={workers}")?;
+    read_replay_words(alloc, from.as_str(), workers.as_str(), image, dump)
+}
+
+/// The same, of `--from=P` and `--workers=W`.
+fn read_replay_words(
+    alloc: Global,
+    from: &str,
+    workers: &str,
+    image: &str,
+    dump: &str,
+) -> Result<Option<Command>, AllocError>
+    requires from { from.now ≡ codes "--from=" ++ drop 7 from.now }
+    requires workers { workers.now ≡ codes "--workers=" ++ drop 10 workers.now }
+    ensures { IfOk result (λ command. command ≡ asked kind.Replay (image.now ∷ dump.now ∷ []) (Some (drop 7 from.now) ∷ Some (drop 10 workers.now) ∷ [])) }
+{
+    let words = ["replay", from, workers, "--", image, dump];
+    let matches = matches_of(replay_parser(alloc)?, &words)?;
+    let image = name_in(alloc, &matches, "image")?;
+    let dump = name_in(alloc, &matches, "dump")?;
+    let from = text_in(&matches, "from");
+    let workers = text_in(&matches, "workers");
+    Ok(replay_of(image, dump, from, workers))
+}
+
+/// A replay, by the digits of its numbers.
+fn replay_of(image: Name, dump: Name, from: &str, workers: &str) -> Option<Command>
+    ensures { result ≡ asked kind.Replay (image ∷ dump ∷ []) (Some from.now ∷ Some workers.now ∷ []) }
+{
+    match (point_in(from), workers_in(workers)) {
+        (Some(from), Some(workers)) => Some(Command::Replay {
+            image,
+            dump,
+            from,
+            workers,
+        }),
+        _ => None,
+    }
+}
+
+fn read_make(alloc: Global, number: &str) -> Result<Option<Command>, AllocError>
+    ensures { IfOk result (λ command. command ≡ asked kind.Make (number.now ∷ []) []) }
+{
+    let words = ["make", "--", number];
+    let matches = matches_of(make_parser(alloc)?, &words)?;
+    match seed_in(text_in(&matches, "number")) {
+        Some(number) => Ok(Some(Command::Make { number })),
+        None => Ok(None),
+    }
+}
