@@ -21,7 +21,17 @@ const ENDS: &[u8] = b"tmi 1\ntask 0 basic 1 auto 0 1\ntext 0 00200893 00000073\n
 const PREEMPTED: &[u8] =
     b"tmi 1\ntask 0 basic 1 auto 0 1\ntext 0 0000006f\ntask 1 basic 2 off 0 1\ntext 1 00200893 00000073\nline 1 activate 1\n";
 
-/// The tape of a drive over an image and a plant, with eight devices at the bench.
+/// A slice of which each port is 0.
+fn quiet(length: u32, mask: u32) -> Slice {
+    Slice {
+        length,
+        mask,
+        ports: [0; 4],
+    }
+}
+
+/// The tape of a drive over an image and a plant, with eight devices at the bench, and how many slices the
+/// recorder then has.
 fn driven<R: Threads + Abort + Sync, G: Gate>(
     rt: &R,
     alloc: Global,
@@ -56,17 +66,13 @@ fn driven<R: Threads + Abort + Sync, G: Gate>(
 #[test]
 fn without_devices_each_slice_is_quiet(rt: HostRuntime) -> Result<(), Fail> {
     let (tape, slices) = driven(&rt, rt.alloc(), ENDS, b"tmplant 1\n", 2, 2, &Open)?;
-    let quiet = Slice {
-        length: 2,
-        mask: 0,
-        ports: [0; 4],
-    };
-    assert!(rt; tape.slices() == [quiet; 2].as_slice());
+    assert!(rt; tape.slices() == [quiet(2, 0); 2].as_slice());
     assert_eq!(rt; slices, 2);
     Ok(())
 }
 
 /// A gate at which the first act waits for the second slice, and the second slice for the second act.
+#[derive(Drop)]
 struct Meet {
     acts: AtomicU64,
     slices: AtomicU64,
@@ -119,11 +125,8 @@ fn a_raise_after_the_first_take_is_in_the_second(rt: HostRuntime) -> Result<(), 
     let gate = Meet::new();
     let plant = b"tmplant 1\ndevice 0\nraise 0 1 2\n";
     let (tape, slices) = driven(&rt, rt.alloc(), PREEMPTED, plant, 2, 4, &gate)?;
-    let [first, second] = tape.slices() else {
-        return Err(Fail);
-    };
-    assert_eq!(rt; (first.mask, second.mask), (0, 2));
-    assert_eq!(rt; (first.length, second.length, slices), (4, 4, 2));
+    assert!(rt; tape.slices() == [quiet(4, 0), quiet(4, 2)].as_slice());
+    assert_eq!(rt; slices, 2);
     assert_eq!(rt; gate.slices.load(Ordering::SeqCst), 2);
     assert_eq!(rt; gate.failures.load(Ordering::SeqCst), 0);
     Ok(())
