@@ -12,12 +12,12 @@ use Rattle.atomic_table.specs.Table.{Splits, Joins, opening}
 use Rattle.atomic_table.proofs.Lists.{at_set, at_snoc, at_longer, set_here, set_else}
 use Rattle.tm_irq.specs.declared.views.Deeds.{Deeds}
 use Rattle.tm_irq.specs.declared.views.View.{View}
-use Rattle.tm_irq.specs.Views.{fresh, joined, late, stored, of_device, in_view, in_all, no_deeds, device_view, spent_view, kernel_view, homes, without_first, only_first, with_home}
+use Rattle.tm_irq.specs.Views.{fresh, joined, late, stored, seen, missed, of_device, in_view, in_all, no_deeds, device_view, spent_view, kernel_view, homes, without_first, only_first, with_home}
 use Rattle.tm_irq.specs.Rule.{Board, IsDevice, IsSeated, IsBalanced, Keeps, has_line}
 use Rattle.tm_irq.proofs.Sums.{sum_set}
 use Rattle.tm_irq.proofs.Seating.{there_within, kernels_seat, kernels_view, others_stay}
 use Rattle.tm_irq.proofs.Storing.{stored_stays}
-use Rattle.tm_irq.proofs.Keeping.{balance_stays}
+use Rattle.tm_irq.proofs.Keeping.{balance_stays, glances_stay}
 
 -- where every sum stays, so does the rule, but for who sits where
 module _ (devices : ℕ) (s : Board) (kept : Keeps devices s) (after : List View) (w : View) (same : (f : Deeds → ℕ) → in_all f after ≡ in_all f s.views) where
@@ -30,6 +30,7 @@ module _ (devices : ℕ) (s : Board) (kept : Keeps devices s) (after : List View
     seated = seated;
     balanced = subst (λ ts. IsBalanced ts (get_or s.words 0 0) after) (sym takes) (balance_stays kept.kernel.takes (get_or s.words 0 0) s.views after (λ p. same (λ d. count_by p d.raises)) kept.balanced);
     stored = stored_stays s.views after (λ p x. omega (arith, same (stored p x))) kept.kernel w s.words s.words latches latching (λ p h. refl) kept.stored;
+    glances = glances_stay s.views after (λ l n. omega (arith, same (fresh l n))) (λ l n. same (seen l n)) (same missed) kept.glances;
   }
 
 one_device : (d : Deeds) → IsDevice (device_view (d ∷ []))
@@ -175,4 +176,5 @@ begins devices =
         latches = All-nil _;
         latching = λ p h. absurd (omega arith);
       };
+      glances = record { found = λ l n none_fresh. quiet (seen l n) (λ d. refl); own = quiet missed (λ d. refl) };
     }

@@ -6,6 +6,7 @@ pub mod Keeping
 pub mod Seats
 pub mod Tallying
 pub mod Raising
+pub mod Glancing
 pub mod Taking
 pub mod Porting
 pub mod Homing

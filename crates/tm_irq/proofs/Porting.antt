@@ -11,13 +11,13 @@ use Rattle.atomic_table.specs.Table.{step, keeps, stepped, Allows}
 use Rattle.tm_irq.specs.declared.views.Store.{Store}
 use Rattle.tm_irq.specs.declared.views.Deeds.{Deeds}
 use Rattle.tm_irq.specs.declared.views.View.{View}
-use Rattle.tm_irq.specs.Views.{is_store, stored, of_device, in_all, with_store}
+use Rattle.tm_irq.specs.Views.{is_store, fresh, stored, seen, missed, of_device, in_all, with_store}
 use Rattle.tm_irq.specs.Rule.{Board, IsDevice, IsBalanced, WasStored, WereStored, IsStored, Keeps}
 use Rattle.tm_irq.specs.Steps.{store_of, Sets, Latches, EndsLatch}
 use Rattle.tm_irq.proofs.Sums.{all_set, all_same, stored_more, stored_same}
 use Rattle.tm_irq.proofs.Seating.{kernels_view, device_steps, kernel_steps}
 use Rattle.tm_irq.proofs.Storing.{was_still, were_still, were_more, latches_still, port_set, stored_stays}
-use Rattle.tm_irq.proofs.Keeping.{Mine, set_back, quiet, balance_stays}
+use Rattle.tm_irq.proofs.Keeping.{Mine, set_back, quiet, balance_stays, glances_stay}
 
 -- a step of the kernel's seat that reads a port
 module _ (devices id port : ℕ) (me : Mine) (w : View) (s : Board) (kept : Keeps devices s) (at : get_elem? s.views id ≡ some me.0)
@@ -39,6 +39,7 @@ module _ (devices id port : ℕ) (me : Mine) (w : View) (s : Board) (kept : Keep
         balanced = subst (λ ts. IsBalanced ts (get_or s.words 0 0) after) (ap (λ (v : View). v.takes) (sym kernel) ∙ sym takes)
             (balance_stays kept.kernel.takes (get_or s.words 0 0) s.views after (λ p. quiet devices id me w s kept at deeds (λ d. count_by p d.raises)) kept.balanced);
         stored = stored;
+        glances = glances_stay s.views after (λ l n. omega (arith, quiet devices id me w s kept at deeds (fresh l n))) (λ l n. quiet devices id me w s kept at deeds (seen l n)) (quiet devices id me w s kept at deeds missed) kept.glances;
       }
 
   -- the kernel's latches as they were
@@ -122,6 +123,7 @@ sets_at devices slots id me port value within fits not_kernel d single s kept wi
           latches = latches_still s.views after grows kept.kernel.latches kept.stored.latches;
           latching = were_still s.views after grows kept.kernel.latching kept.stored.latching;
         };
+        glances = glances_stay s.views after (λ l n. omega (arith, same (fresh l n) (λ e. refl))) (λ l n. same (seen l n) (λ e. refl)) (same missed (λ e. refl)) kept.glances;
       },
       (port, refl, refl),
     )

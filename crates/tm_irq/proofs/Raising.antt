@@ -12,14 +12,14 @@ use Rattle.atomic_table.specs.Table.{step, keeps, Allows}
 use Rattle.tm_irq.specs.declared.views.Raise.{Raise}
 use Rattle.tm_irq.specs.declared.views.Deeds.{Deeds}
 use Rattle.tm_irq.specs.declared.views.View.{View}
-use Rattle.tm_irq.specs.Views.{is_fresh, is_joined, fresh, joined, stored, of_device, in_all, with_raise}
+use Rattle.tm_irq.specs.Views.{is_fresh, is_joined, fresh, joined, stored, seen, missed, of_device, in_all, with_raise}
 use Rattle.tm_irq.specs.Rule.{IsDevice, IsBalanced, Keeps, has_line}
 use Rattle.tm_irq.specs.Steps.{raise_of, Raises}
 use Rattle.tm_irq.proofs.Sums.{all_set, all_same, raised_more, raised_same}
 use Rattle.tm_irq.proofs.Bits.{or_small, or_word, or_here, or_else, low_bit, line_here, line_else}
 use Rattle.tm_irq.proofs.Seating.{device_steps}
 use Rattle.tm_irq.proofs.Storing.{stored_stays}
-use Rattle.tm_irq.proofs.Keeping.{Mine}
+use Rattle.tm_irq.proofs.Keeping.{Mine, glances_stay}
 
 raised_device : (r : Raise) (v : View) → IsDevice v → IsDevice (with_raise r v)
 raised_device r v d = record {
@@ -115,7 +115,8 @@ raises_at devices slots id me line within not_kernel d single s kept wide at sma
     let here : 0 < length s.words = omega arith in
     let r : Raise = raise_of line word in
     let w : View = with_raise r me.0 in
-    let same : (f : Deeds → ℕ) → ((e : Deeds) → f (record e { raises = e.raises ++ r ∷ [] }) ≡ f e) → in_all f (set s.views id w) ≡ in_all f s.views = λ f e. all_same f s.views id me.0 w at (raised_same f r me.0 e) in (
+    let same : (f : Deeds → ℕ) → ((e : Deeds) → f (record e { raises = e.raises ++ r ∷ [] }) ≡ f e) → in_all f (set s.views id w) ≡ in_all f s.views = λ f e. all_same f s.views id me.0 w at (raised_same f r me.0 e) in
+    let more : (p : Raise → Bool) → in_all (λ e. count_by p e.raises) (set s.views id w) ≡ in_all (λ e. count_by p e.raises) s.views + cond (p r) 1 0 = λ p. all_set (λ e. count_by p e.raises) s.views id me.0 w (cond (p r) 1 0) at (raised_more p r me.0 d single) in (
       w,
       keeps,
       tt,
@@ -126,6 +127,7 @@ raises_at devices slots id me line within not_kernel d single s kept wide at sma
         seated = device_steps devices kept.seat kept.kernel s.views kept.seated id me.0 at w not_kernel (raised_device r me.0) (λ k. raised_same (of_device k) r me.0 (λ e. refl));
         balanced = subst (λ x. IsBalanced kept.kernel.takes x (set s.views id w)) (sym (get_or-set_same s.words 0 (bit_or word (2 ^ line)) 0 here)) (raise_balances kept.kernel.takes word s.views kept.balanced id me.0 d at single line within);
         stored = stored_stays s.views (set s.views id w) (λ p x. omega (arith, same (stored p x) (λ e. refl))) kept.kernel kept.kernel s.words (set s.words 0 (bit_or word (2 ^ line))) refl refl (λ p h. get_or-set_other s.words 0 (p + 1) (bit_or word (2 ^ line)) 0 (λ e. omega arith)) kept.stored;
+        glances = glances_stay s.views (set s.views id w) (λ l n. omega (arith, more (is_fresh l n))) (λ l n. same (seen l n) (λ e. refl)) (same missed (λ e. refl)) kept.glances;
       },
       (line, refl, refl),
     )

@@ -13,7 +13,7 @@ use Rattle.tm_irq.specs.declared.views.Raise.{Raise}
 use Rattle.tm_irq.specs.declared.views.Store.{Store}
 use Rattle.tm_irq.specs.declared.views.Deeds.{Deeds}
 use Rattle.tm_irq.specs.declared.views.View.{View}
-use Rattle.tm_irq.specs.Views.{with_raise, with_store, no_deeds, kernel_view, homes, without_first, other_deeds, with_home}
+use Rattle.tm_irq.specs.Views.{with_raise, with_store, glance_of, with_glance, no_deeds, kernel_view, homes, without_first, other_deeds, with_home}
 use Rattle.tm_irq.specs.Steps.{raise_of, store_of, Raises, Sets}
 use Rattle.tm_irq.proofs.Bits.{same_line}
 use Rattle.tm_irq.specs.Lists.{Token, DeviceLists, device_lists, only}
@@ -174,6 +174,43 @@ pub set_me : (port word value : ℕ) (v w : Mine) → word ≡ port + 1 → Sets
 set_me port word value v w is told stored same =
     let p : told.0 ≡ port = let e = told.1 in omega arith in
     told.2 ∙ ap (λ k. (with_store (store_of k value) v.0, v.1)) p ∙ ap (λ k. (with_store (store_of port k) v.0, v.1)) same
+
+-- a glance more, in the deeds of one device
+module _ (deeds : List Deeds) (single : deeds ≡ only deeds ∷ []) (mask number : ℕ) where
+  abbrev looked : List Deeds → List Deeds
+  looked ds = map (λ (d : Deeds). record d { glances = d.glances ++ glance_of mask number d ∷ [] }) ds
+
+  pub glanced_raises : (only (looked deeds)).raises ≡ (only deeds).raises
+  glanced_raises = let P : List Deeds → Type 0 = λ ds. (only (looked ds)).raises ≡ (only ds).raises in subst P (sym single) refl
+
+  pub glanced_single : looked deeds ≡ only (looked deeds) ∷ []
+  glanced_single = let P : List Deeds → Type 0 = λ ds. looked ds ≡ only (looked ds) ∷ [] in subst P (sym single) refl
+
+  pub glanced_list : (only (looked deeds)).glances ≡ (only deeds).glances ++ record { mask = mask; number = number; before = (only deeds).raises } ∷ []
+  glanced_list = let P : List Deeds → Type 0 = λ ds. (only (looked ds)).glances ≡ (only ds).glances ++ record { mask = mask; number = number; before = (only ds).raises } ∷ [] in subst P (sym single) refl
+
+-- after a glance
+module _ (table : TableId) (seat new : Token) (raised joined : List ℕ) (mask number : ℕ) (i : IsDeviceSeat table seat raised joined) (t : new.table_id ≡ seat.table_id) (me : new.me ≡ (with_glance mask number seat.me.0, seat.me.1)) where
+  pub glanced_seat : IsDeviceSeat table new raised joined
+  glanced_seat = record {
+    fits = t ∙ i.fits;
+    five = i.five;
+    bare = ap (λ (m : Mine). m.1) me ∙ i.bare;
+    kernel = ap (λ (m : Mine). m.0.kernel) me ∙ i.kernel;
+    single = subst (λ (m : Mine). m.0.deeds ≡ only m.0.deeds ∷ []) (sym me) (glanced_single seat.me.0.deeds i.single mask number);
+    raises = subst (λ (m : Mine). IsTally raised (λ l. raises_on l (only m.0.deeds))) (sym me) (tally_same raised _ _ i.raises (λ l. ap (count_by (λ (r : Raise). r.line == l)) (glanced_raises seat.me.0.deeds i.single mask number)));
+    joins = subst (λ (m : Mine). IsTally joined (λ l. joins_on l (only m.0.deeds))) (sym me) (tally_same joined _ _ i.joins (λ l. ap (count_by (λ (r : Raise). (r.line == l) && r.joined)) (glanced_raises seat.me.0.deeds i.single mask number)));
+  }
+
+  -- what the glance adds to the list
+  pub glance_added : (old : DeviceLists) → device_lists seat ≡ old → (answer : ℕ) → mask ≡ answer
+      → (n : ℕ) × ((only new.me.0.deeds).glances ≡ old.glances ++ record { mask = answer; number = n; before = old.raises } ∷ [])
+  glance_added old view answer is = (
+    number,
+    ap (λ (m : Mine). (only m.0.deeds).glances) me ∙ glanced_list seat.me.0.deeds i.single mask number
+        ∙ ap (λ k. (only seat.me.0.deeds).glances ++ record { mask = k; number = number; before = (only seat.me.0.deeds).raises } ∷ []) is
+        ∙ ap (λ (d : DeviceLists). d.glances ++ record { mask = answer; number = number; before = d.raises } ∷ []) view,
+  )
 
 -- nothing is counted yet
 zeros : (n i : ℕ) → get_or {A = ℕ} (replicate n 0) i 0 ≡ 0

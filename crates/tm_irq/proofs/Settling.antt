@@ -9,7 +9,7 @@ use lib.ListN.{get_elem?}
 use Rattle.atomic_table.specs.Table.{step, keeps, Allows}
 use Rattle.tm_irq.specs.declared.views.Deeds.{Deeds}
 use Rattle.tm_irq.specs.declared.views.View.{View}
-use Rattle.tm_irq.specs.Views.{fresh, joined, late, stored, of_device, in_view, in_all}
+use Rattle.tm_irq.specs.Views.{fresh, joined, late, stored, seen, missed, of_device, in_view, in_all}
 use Rattle.tm_irq.specs.Rule.{Board, IsSeated, Keeps, has_line}
 use Rattle.tm_irq.specs.Audit.{AllHome, WasSet, IsSettled}
 use Rattle.tm_irq.specs.Steps.{Settles}
@@ -94,6 +94,8 @@ module _ (devices : ℕ) (s : Board) (kept : Keeps devices s) (home : AllHome de
     beside = λ l n z. sym (whole (joined l n)) ∙ kept.balanced.beside l n (whole (fresh l n) ∙ z);
     numbers = sym (whole (late (length kernel.takes))) ∙ kept.balanced.numbers;
     words = λ k d within port inside. was_set port _ (kept.stored.latches k d within port inside).1;
+    found = λ l n z. sym (whole (seen l n)) ∙ kept.glances.found l n (whole (fresh l n) ∙ z);
+    own = sym (whole missed) ∙ kept.glances.own;
   }
 
 -- the last glance

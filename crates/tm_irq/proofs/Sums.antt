@@ -5,9 +5,10 @@ use mathlib.Core.Option.{some, some-injective, some-ne-none}
 use lib.ListN.{get_elem?}
 use Rattle.tm_irq.specs.declared.views.Raise.{Raise}
 use Rattle.tm_irq.specs.declared.views.Store.{Store}
+use Rattle.tm_irq.specs.declared.views.Glance.{Glance}
 use Rattle.tm_irq.specs.declared.views.Deeds.{Deeds}
 use Rattle.tm_irq.specs.declared.views.View.{View}
-use Rattle.tm_irq.specs.Views.{in_view, in_all, with_raise, with_store}
+use Rattle.tm_irq.specs.Views.{in_view, in_all, with_raise, with_store, glance_of, with_glance}
 
 module _ {A : Type 0} (f : A → ℕ) where
   pub sum_set : (l : List A) (i : ℕ) (v w : A) → get_elem? l i ≡ some v → sum_by f (set l i w) + f v ≡ sum_by f l + f w
@@ -53,9 +54,20 @@ stored_more p s v d is =
     let P : List Deeds → Type 0 = λ ds. sum_by F (map (λ (e : Deeds). record e { stores = e.stores ++ s ∷ [] }) ds) ≡ sum_by F ds + cond (p s) 1 0 in
     subst P (sym is) (omega (arith, sum_by_push (λ (x : Store). cond (p x) 1 0) d.stores s))
 
+-- and a glance more
+pub glanced_more : (h : Glance → ℕ) (mask number : ℕ) (v : View) (d : Deeds) → v.deeds ≡ d ∷ []
+    → in_view (λ e. sum_by h e.glances) (with_glance mask number v) ≡ in_view (λ e. sum_by h e.glances) v + h (glance_of mask number d)
+glanced_more h mask number v d is =
+    let F : Deeds → ℕ = λ e. sum_by h e.glances in
+    let P : List Deeds → Type 0 = λ ds. sum_by F (map (λ (e : Deeds). record e { glances = e.glances ++ glance_of mask number e ∷ [] }) ds) ≡ sum_by F ds + h (glance_of mask number d) in
+    subst P (sym is) (omega (arith, sum_by_push h d.glances (glance_of mask number d)))
+
 -- what doesn't look at the raises stays at a raise, and what doesn't look at the stores at a set
 pub raised_same : (f : Deeds → ℕ) (r : Raise) (v : View) → ((d : Deeds) → f (record d { raises = d.raises ++ r ∷ [] }) ≡ f d) → in_view f (with_raise r v) ≡ in_view f v
 raised_same f r v same = sum_mapped f (λ (d : Deeds). record d { raises = d.raises ++ r ∷ [] }) same v.deeds
 
 pub stored_same : (f : Deeds → ℕ) (s : Store) (v : View) → ((d : Deeds) → f (record d { stores = d.stores ++ s ∷ [] }) ≡ f d) → in_view f (with_store s v) ≡ in_view f v
 stored_same f s v same = sum_mapped f (λ (d : Deeds). record d { stores = d.stores ++ s ∷ [] }) same v.deeds
+
+pub glanced_same : (f : Deeds → ℕ) (mask number : ℕ) (v : View) → ((d : Deeds) → f (record d { glances = d.glances ++ glance_of mask number d ∷ [] }) ≡ f d) → in_view f (with_glance mask number v) ≡ in_view f v
+glanced_same f mask number v same = sum_mapped f (λ (d : Deeds). record d { glances = d.glances ++ glance_of mask number d ∷ [] }) same v.deeds

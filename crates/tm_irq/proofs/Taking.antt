@@ -7,14 +7,14 @@ use Rattle.atomic_table.specs.Table.{step, keeps, Allows}
 use Rattle.tm_irq.specs.declared.views.Raise.{Raise}
 use Rattle.tm_irq.specs.declared.views.Deeds.{Deeds}
 use Rattle.tm_irq.specs.declared.views.View.{View}
-use Rattle.tm_irq.specs.Views.{fresh, joined, late, stored, in_view, in_all}
+use Rattle.tm_irq.specs.Views.{fresh, joined, late, stored, seen, missed, in_view, in_all}
 use Rattle.tm_irq.specs.Rule.{IsBalanced, Keeps, has_line}
 use Rattle.tm_irq.specs.Steps.{Takes}
 use Rattle.tm_irq.proofs.Sums.{sum_below}
 use Rattle.tm_irq.proofs.Bits.{line_taken}
 use Rattle.tm_irq.proofs.Seating.{kernels_view, kernel_steps}
 use Rattle.tm_irq.proofs.Storing.{stored_stays}
-use Rattle.tm_irq.proofs.Keeping.{Mine, quiet}
+use Rattle.tm_irq.proofs.Keeping.{Mine, quiet, glances_stay}
 
 later : (n number : ℕ) → cond {A = ℕ} (nat_lt (n + 1) number) 1 0 ≤ cond (nat_lt n number) 1 0
 later n number = grind (arith, nat_tests)
@@ -63,6 +63,7 @@ takes_at devices slots id me new is_kernel is s kept wide at small =
         seated = kernel_steps devices kept.seat kept.kernel s.views kept.seated id me.0 at w is_kernel is_kernel refl (λ d. refl);
         balanced = subst (λ x. IsBalanced w.takes x (set s.views id w)) (sym (get_or-set_same s.words 0 new 0 here)) (taken_balances me.0.takes word s.views (set s.views id w) balanced same new is);
         stored = stored_stays s.views (set s.views id w) (λ p x. omega (arith, same (stored p x))) kept.kernel w s.words (set s.words 0 new) (ap (λ (v : View). v.latches) kernel) (ap (λ (v : View). v.latching) kernel) (λ p h. get_or-set_other s.words 0 (p + 1) new 0 (λ e. omega arith)) kept.stored;
+        glances = glances_stay s.views (set s.views id w) (λ l n. omega (arith, same (fresh l n))) (λ l n. same (seen l n)) (same missed) kept.glances;
       },
       refl,
     )

@@ -1,6 +1,5 @@
 pub mod Views
 pub mod Rule
-pub mod Pending
 pub mod Steps
 pub mod Lists
 pub mod Tallies

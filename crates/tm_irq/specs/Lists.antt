@@ -4,6 +4,7 @@ use Rattle.atomic_table.specs.Seated.{TableId}
 use Rattle.atomic_table.specs.declared.shared.Seat.{Seat}
 use Rattle.tm_irq.specs.declared.views.Raise.{Raise}
 use Rattle.tm_irq.specs.declared.views.Store.{Store}
+use Rattle.tm_irq.specs.declared.views.Glance.{Glance}
 use Rattle.tm_irq.specs.declared.views.Deeds.{Deeds}
 use Rattle.tm_irq.specs.declared.views.View.{View}
 use Rattle.tm_irq.specs.Views.{no_deeds}
@@ -17,12 +18,13 @@ pub record KernelLists : Type 0 where
   pub latches : List (List ℕ)
   pub home : List Deeds
 
--- a device's seat: its table, the device's number, its raises and its stores
+-- a device's seat: its table, the device's number, its raises, its stores and its glances
 pub record DeviceLists : Type 0 where
   pub table : TableId
   pub device : ℕ
   pub raises : List Raise
   pub stores : List Store
+  pub glances : List Glance
 
 abbrev pub Token : Type 0
 Token = Seat (Unit {0}) View
@@ -36,14 +38,14 @@ only [] = no_deeds 0
 only (d ∷ ds) = d
 
 abbrev pub deeds_lists : TableId → Deeds → DeviceLists
-deeds_lists table d = record { table = table; device = d.device; raises = d.raises; stores = d.stores }
+deeds_lists table d = record { table = table; device = d.device; raises = d.raises; stores = d.stores; glances = d.glances }
 
 abbrev pub device_lists : Token → DeviceLists
 device_lists s = deeds_lists s.table_id (only s.me.0.deeds)
 
 -- the deeds that a device's seat has
 abbrev pub deeds_of : DeviceLists → Deeds
-deeds_of d = record { device = d.device; raises = d.raises; stores = d.stores }
+deeds_of d = record { device = d.device; raises = d.raises; stores = d.stores; glances = d.glances }
 
 -- an open bench has 1 to 8 devices, each by its number, all at the kernel's table, and none is home
 pub record AreSeats (k : KernelLists) (devices : List DeviceLists) : Type 0 where

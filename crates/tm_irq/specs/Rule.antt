@@ -6,7 +6,7 @@ use mathlib.Core.Option.{some}
 use lib.ListN.{get_elem?}
 use Rattle.atomic_table.specs.Table.{State}
 use Rattle.tm_irq.specs.declared.views.View.{View}
-use Rattle.tm_irq.specs.Views.{fresh, joined, stored, of_device, late, in_all}
+use Rattle.tm_irq.specs.Views.{fresh, joined, stored, seen, missed, of_device, late, in_all}
 
 -- the five words, no slot, and the views
 abbrev pub Board : Type 0
@@ -57,6 +57,12 @@ pub record IsStored (kernel : View) (words : List ℕ) (views : List View) : Typ
   pub latches : All (WereStored views) kernel.latches
   pub latching : WereStored views kernel.latching
 
+-- Glances: a line that a glance found has a fresh raise with the glance's number, and no glance missed what its own
+-- device had raised with that number
+pub record IsGlanced (views : List View) : Type 0 where
+  pub found : (line number : ℕ) → in_all (fresh line number) views ≡ 0 → in_all (seen line number) views ≡ 0
+  pub own : in_all missed views ≡ 0
+
 -- the rule of a table with so many devices
 pub record Keeps (devices : ℕ) (s : Board) : Type 0 where
   pub seat : ℕ
@@ -65,3 +71,4 @@ pub record Keeps (devices : ℕ) (s : Board) : Type 0 where
   pub seated : IsSeated devices seat kernel s.views
   pub balanced : IsBalanced kernel.takes (slice_index s.words 0) s.views
   pub stored : IsStored kernel s.words s.views
+  pub glances : IsGlanced s.views

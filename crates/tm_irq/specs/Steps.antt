@@ -4,10 +4,8 @@ use Rattle.std.specs.Int.{bit_at}
 use Rattle.atomic_table.specs.Table.{Me, Step}
 use Rattle.tm_irq.specs.declared.views.Raise.{Raise}
 use Rattle.tm_irq.specs.declared.views.Store.{Store}
-use Rattle.tm_irq.specs.declared.views.Deeds.{Deeds}
 use Rattle.tm_irq.specs.declared.views.View.{View}
-use Rattle.tm_irq.specs.Views.{with_raise, with_store}
-use Rattle.tm_irq.specs.Pending.{PendBeside}
+use Rattle.tm_irq.specs.Views.{with_raise, with_store, with_glance}
 use Rattle.tm_irq.specs.Audit.{AllHome, IsSettled}
 
 abbrev Mine : Type 0
@@ -41,9 +39,9 @@ Latches s v found w = (found < 2 ^ 32) × (w ≡ (record v.0 { latching = v.0.la
 abbrev pub EndsLatch : Step (Unit {0}) → Mine → ℕ → Mine → Type 0
 EndsLatch s v found w = (found < 2 ^ 32) × (w ≡ (record v.0 { latches = v.0.latches ++ (v.0.latching ++ found ∷ []) ∷ []; latching = [] }, v.1))
 
--- a glance changes nothing, and finds the lines that pend
+-- a glance changes no word; it finds the lines that pend, and is added
 abbrev pub Glances : Step (Unit {0}) → Mine → ℕ → Mine → Type 0
-Glances s v found w = (w ≡ v) × ((d : Deeds) → v.0.deeds ≡ d ∷ [] → PendBeside d (found % 65536))
+Glances s v found w = w ≡ (with_glance (found % 65536) (found / 65536) v.0, v.1)
 
 -- the last glance: with every device home, all entries stand in the kernel's view
 abbrev pub Settles : Step (Unit {0}) → Mine → ℕ → Mine → Type 0

@@ -1,8 +1,10 @@
 -- What the seats of a table know, and what is counted over all of them.
 use Rattle.std.specs.Prelude.{ℕ, Bool, true, false, not, ◌&&◌, ◌==◌, nat_lt, if◌then◌else◌, List, [], ◌∷◌, ◌++◌, map, sum_by, count_by}
 use Rattle.std.specs.List.{range_with_len}
+use Rattle.std.specs.Int.{bit_at}
 use Rattle.tm_irq.specs.declared.views.Raise.{Raise}
 use Rattle.tm_irq.specs.declared.views.Store.{Store}
+use Rattle.tm_irq.specs.declared.views.Glance.{Glance}
 use Rattle.tm_irq.specs.declared.views.Deeds.{Deeds}
 use Rattle.tm_irq.specs.declared.views.View.{View}
 
@@ -34,6 +36,26 @@ late number d = count_by (λ r. nat_lt number r.number) d.raises
 abbrev pub stored : ℕ → ℕ → Deeds → ℕ
 stored port value d = count_by (is_store port value) d.stores
 
+-- the glance found the line, with this number of takes in the word
+abbrev pub is_seen : ℕ → ℕ → Glance → Bool
+is_seen line number g = (g.number == number) && (bit_at g.mask line == 1)
+
+-- how many glances of a device found the line with this number
+abbrev pub seen : ℕ → ℕ → Deeds → ℕ
+seen line number d = count_by (is_seen line number) d.glances
+
+-- the raise has this number, and its line isn't in the mask
+abbrev pub is_missed : ℕ → ℕ → Raise → Bool
+is_missed mask number r = (r.number == number) && not (bit_at mask r.line == 1)
+
+-- how many of the raises before it have the glance's number, and a line that it didn't find
+abbrev pub missed_by : Glance → ℕ
+missed_by g = count_by (is_missed g.mask g.number) g.before
+
+-- and over all glances of a device
+abbrev pub missed : Deeds → ℕ
+missed d = sum_by missed_by d.glances
+
 -- 1 where these are the deeds of this device, else 0
 abbrev pub of_device : ℕ → Deeds → ℕ
 of_device device d = if d.device == device then 1 else 0
@@ -54,9 +76,17 @@ with_raise r v = record v { deeds = map (λ (d : Deeds). record d { raises = d.r
 abbrev pub with_store : Store → View → View
 with_store s v = record v { deeds = map (λ (d : Deeds). record d { stores = d.stores ++ s ∷ [] }) v.deeds }
 
+-- a glance, after what a device had raised
+abbrev pub glance_of : ℕ → ℕ → Deeds → Glance
+glance_of mask number d = record { mask = mask; number = number; before = d.raises }
+
+-- a glance is added
+abbrev pub with_glance : ℕ → ℕ → View → View
+with_glance mask number v = record v { deeds = map (λ (d : Deeds). record d { glances = d.glances ++ glance_of mask number d ∷ [] }) v.deeds }
+
 -- the deeds of a device that did nothing yet
 abbrev pub no_deeds : ℕ → Deeds
-no_deeds device = record { device = device; raises = []; stores = [] }
+no_deeds device = record { device = device; raises = []; stores = []; glances = [] }
 
 -- what a device's seat knows
 abbrev pub device_view : List Deeds → View

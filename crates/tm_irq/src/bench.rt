@@ -4,7 +4,7 @@ ghost use Rattle.std.specs.List.{range_with_len};
 ghost use Rattle.std.proofs.Props.{props};
 ghost use Rattle.tm_irq.specs.Views.{homes, no_deeds};
 ghost use Rattle.tm_irq.specs.Lists.{KernelLists, DeviceLists, deeds_of, deeds_lists, AreSeats};
-ghost use Rattle.tm_irq.specs.Audit.{IsAudit, IsSettled, TakesFit, LatchesFit, Balances, raises_in};
+ghost use Rattle.tm_irq.specs.Audit.{IsAudit, IsSettled, TakesFit, LatchesFit, GlancesFit, Balances, raises_in};
 
 use crate::audit::Audit;
 use crate::device_seat::DeviceSeat;
@@ -55,6 +55,7 @@ impl Bench {
         ensures counts { IsAudit result (bench_lists self.old).takes (bench_lists self.old).deeds }
         ensures takes { TakesFit (bench_lists self.old).takes (bench_lists self.old).deeds }
         ensures latches { LatchesFit (bench_lists self.old).latches (bench_lists self.old).deeds }
+        ensures glances { GlancesFit (bench_lists self.old).deeds }
         ensures settled { (pending : ℕ) × IsSettled (bench_lists self.old).takes (bench_lists self.old).latches (bench_lists self.old).deeds pending }
         ensures balance { raises_in (bench_lists self.old).deeds < 2 ^ 64 → (line : ℕ) → line < 16 → Balances result line }
     {

@@ -1,7 +1,6 @@
 //! A device's seat: it raises lines, sets ports and looks at the lines that pend.
 ghost use Rattle.std.specs.Prelude.{◌≡◌, ℕ, ◌<◌, [], ◌∷◌, ◌++◌};
-ghost use Rattle.tm_irq.specs.Lists.{DeviceLists, deeds_of};
-ghost use Rattle.tm_irq.specs.Pending.{PendBeside};
+ghost use Rattle.tm_irq.specs.Lists.{DeviceLists};
 ghost use Rattle.tm_irq.specs.Raised.{is_joined_answer};
 
 use crate::rule::{Board, Glancing, Raising, Setting};
@@ -20,8 +19,8 @@ pub enum Raised {
     Joined,
 }
 
-/// The seat of one device. Contracts see its table, the device's number, and the lists `raises` and
-/// `stores` of what was done at it.
+/// The seat of one device. Contracts see its table, the device's number, and the lists `raises`, `stores`
+/// and `glances` of what was done at it.
 #[derive(Drop)]
 pub struct DeviceSeat {
     pub(crate) table: Arc<Board>,
@@ -48,6 +47,7 @@ impl DeviceSeat {
         requires { line < 16 }
         ensures raises { (number : ℕ) × (self.new.raises ≡ self.old.raises ++ record { line = line; joined = is_joined_answer result; number = number } ∷ []) }
         ensures stores { self.new.stores ≡ self.old.stores }
+        ensures glances { self.new.glances ≡ self.old.glances }
         ensures device { self.new.device ≡ self.old.device }
         ensures table { self.new.table ≡ self.old.table }
     {
@@ -68,6 +68,7 @@ impl DeviceSeat {
         requires { port < 4 }
         ensures stores { self.new.stores ≡ self.old.stores ++ record { port = port; value = value } ∷ [] }
         ensures raises { self.new.raises ≡ self.old.raises }
+        ensures glances { self.new.glances ≡ self.old.glances }
         ensures device { self.new.device ≡ self.old.device }
         ensures table { self.new.table ≡ self.old.table }
     {
@@ -76,11 +77,14 @@ impl DeviceSeat {
             .store::<Setting>(&mut self.seat, usize::from(port) + 1, u64::from(value));
     }
 
-    /// The lines that pend, as a mask below 65,536. It changes no list.
+    /// The lines that pend, as a mask below 65,536.
     pub fn glance(&mut self) -> u32
         ensures mask { result < 65536 }
-        ensures pending { PendBeside (deeds_of self.old) result }
-        ensures lists { self.new ≡ self.old }
+        ensures glances { (number : ℕ) × (self.new.glances ≡ self.old.glances ++ record { mask = result; number = number; before = self.old.raises } ∷ []) }
+        ensures raises { self.new.raises ≡ self.old.raises }
+        ensures stores { self.new.stores ≡ self.old.stores }
+        ensures device { self.new.device ≡ self.old.device }
+        ensures table { self.new.table ≡ self.old.table }
     {
         let found = self.table.shared.load::<Glancing>(&mut self.seat, 0);
         (found % 65536) as u32

@@ -70,7 +70,7 @@ impl Play<(), View> for EndingLatch {
     ghost then = { EndsLatch };
 }
 
-/// A load of word 0 that changes nothing.
+/// A load of word 0 that changes no word.
 pub struct Glancing;
 
 impl Play<(), View> for Glancing {

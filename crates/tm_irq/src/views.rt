@@ -15,11 +15,20 @@ pub struct Store {
     pub value: u32,
 }
 
+/// A look at the lines: the mask that was found, with the number of takes, and what the device had raised
+/// before.
+pub struct Glance {
+    pub mask: u32,
+    pub number: u64,
+    pub before: LinkedList<Raise>,
+}
+
 /// What one device did, in order.
 pub struct Deeds {
     pub device: u8,
     pub raises: LinkedList<Raise>,
     pub stores: LinkedList<Store>,
+    pub glances: LinkedList<Glance>,
 }
 
 /// What a seat knows. The kernel's seat knows the number of devices, its takes and latches, the words

@@ -75,7 +75,7 @@ fn raise<G: Gate>(device: &mut DeviceSeat, number: u8, line: u8, times: u32, gat
 /// Looks at a line until it is clear, and goes on after so many turns.
 fn hold<G: Gate>(device: &mut DeviceSeat, number: u8, line: u8, turns: u32, gate: &G)
     requires { line < 16 }
-    ensures { device.new ≡ device.old }
+    ensures { Played [] [] device.old device.new }
 {
     for _ in 0..turns {
         gate.at(number);

@@ -1,6 +1,6 @@
 use Rattle.std.proofs.Common.{sym, ◌∙◌}
 use Rattle.tm_irq.proofs.Auditing.{seats_home}
-use Rattle.tm_irq.proofs.Closing.{bench_seats, closing_counts, closing_takes, closing_latches, closing_settled, closing_balance}
+use Rattle.tm_irq.proofs.Closing.{bench_seats, closing_counts, closing_takes, closing_latches, closing_glances, closing_settled, closing_balance}
 use Rattle.tm_irq.proofs.bench.Bench.close.Goals as goal
 
 pub audit-audit-requires : goal.audit-audit-requires
@@ -20,3 +20,6 @@ returns-clause-takes c = closing_takes c.args.self.now c.in-Some.kernel (sym c.t
 
 pub returns-clause-latches : goal.returns-clause-latches
 returns-clause-latches c = closing_latches c.args.self.now c.in-Some.kernel (sym c.take.ensures.value ∙ c.in-Some.is) c.gather.new.kernel c.gather.ensures.kernel c.audit-audit.ensures.settled
+
+pub returns-clause-glances : goal.returns-clause-glances
+returns-clause-glances c = closing_glances c.args.self.now c.in-Some.kernel (sym c.take.ensures.value ∙ c.in-Some.is) c.gather.new.kernel c.gather.ensures.kernel c.audit-audit.ensures.settled
