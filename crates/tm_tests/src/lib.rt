@@ -1,5 +1,6 @@
 //! The tests that cross crates: whole texts, dumps and refusals of the call `tm`, over a shelf and a
-//! sink in memory. Expected texts were worked by hand from the tables of instructions and services.
+//! sink in memory, and the summaries of large runs. Expected texts were worked by hand from the tables of
+//! instructions and services.
 #![tactic(auto)]
 
 #[cfg(test)]
@@ -8,6 +9,8 @@ mod calls;
 mod dumps;
 #[cfg(test)]
 mod faults;
+#[cfg(test)]
+mod large_runs;
 #[cfg(test)]
 mod statuses;
 #[cfg(test)]

@@ -1,0 +1,4 @@
+pub mod Slices
+pub mod Runs
+pub mod Windows
+pub mod Refusals
