@@ -11,7 +11,7 @@ use tm_image::read_image;
 use tm_io::{Gate, Open};
 use tm_irq::Bench;
 use tm_marker::Slice;
-use tm_plant::read_plant;
+use tm_plant::{Plant, read_plant};
 use tm_record::Recorder;
 
 /// A task that terminates at once.
@@ -30,44 +30,45 @@ fn quiet(length: u32, mask: u32) -> Slice {
     }
 }
 
-/// The tape of a drive over an image and a plant, with eight devices at the bench, and how many slices the
-/// recorder then has.
+fn recorder(rt: &impl Abort, alloc: Global, image: &[u8]) -> Result<Recorder, Fail> {
+    assert!(rt; image.len() < 1 << 20);
+    let image = read_image(alloc, image).expect(rt, "the image is read");
+    let recorder = Recorder::open(alloc, image)?;
+    Ok(recorder)
+}
+
+fn plant(rt: &impl Abort, alloc: Global, plant: &[u8]) -> Plant {
+    assert!(rt; plant.len() < 1 << 20);
+    read_plant(alloc, plant).expect(rt, "the plant is read")
+}
+
+/// The tape of a drive by eight devices.
 fn driven<R: Threads + Abort + Sync, G: Gate>(
     rt: &R,
     alloc: Global,
-    image: &[u8],
-    plant: &[u8],
+    recorder: &mut Recorder,
+    plant: &Plant,
     slices: u32,
     len: u32,
     gate: &G,
-) -> Result<(Tape, u64), Fail> {
-    assert!(rt; image.len() < 1 << 20 && plant.len() < 1 << 20);
-    assert!(rt; slices <= 1_048_576 && len <= 1_048_576);
-    let image = read_image(alloc, image).expect(rt, "the image is read");
-    let plant = read_plant(alloc, plant).expect(rt, "the plant is read");
-    let mut recorder = Recorder::open(alloc, image)?;
+) -> Result<Tape, Fail> {
+    assert!(rt; recorder.slices() < 1 << 20 && slices < 1 << 20 && len < 1 << 20);
+    assert!(rt; plant.devices() <= 8);
     let mut bench = Bench::new(alloc, 8)?;
     let mut tape = Tape::new(alloc, slices)?;
-    assert!(rt; plant.devices() <= 8);
     drive(
-        rt,
-        &mut bench,
-        &mut recorder,
-        &plant,
-        slices,
-        len,
-        &mut tape,
-        gate,
+        rt, &mut bench, recorder, plant, slices, len, &mut tape, gate,
     );
-    assert!(rt; bench.kernel.is_some() && tape.room() == 0);
-    Ok((tape, recorder.slices()))
+    Ok(tape)
 }
 
 #[test]
 fn without_devices_each_slice_is_quiet(rt: HostRuntime) -> Result<(), Fail> {
-    let (tape, slices) = driven(&rt, rt.alloc(), ENDS, b"tmplant 1\n", 2, 2, &Open)?;
+    let mut recorder = recorder(&rt, rt.alloc(), ENDS)?;
+    let plant = plant(&rt, rt.alloc(), b"tmplant 1\n");
+    let tape = driven(&rt, rt.alloc(), &mut recorder, &plant, 2, 2, &Open)?;
     assert!(rt; tape.slices() == [quiet(2, 0); 2].as_slice());
-    assert_eq!(rt; slices, 2);
+    assert_eq!(rt; (tape.room(), recorder.slices()), (0, 2));
     Ok(())
 }
 
@@ -123,10 +124,11 @@ impl Gate for Meet {
 #[test]
 fn a_raise_after_the_first_take_is_in_the_second(rt: HostRuntime) -> Result<(), Fail> {
     let gate = Meet::new();
-    let plant = b"tmplant 1\ndevice 0\nraise 0 1 2\n";
-    let (tape, slices) = driven(&rt, rt.alloc(), PREEMPTED, plant, 2, 4, &gate)?;
+    let mut recorder = recorder(&rt, rt.alloc(), PREEMPTED)?;
+    let plant = plant(&rt, rt.alloc(), b"tmplant 1\ndevice 0\nraise 0 1 2\n");
+    let tape = driven(&rt, rt.alloc(), &mut recorder, &plant, 2, 4, &gate)?;
     assert!(rt; tape.slices() == [quiet(4, 0), quiet(4, 2)].as_slice());
-    assert_eq!(rt; slices, 2);
+    assert_eq!(rt; (tape.room(), recorder.slices()), (0, 2));
     assert_eq!(rt; gate.slices.load(Ordering::SeqCst), 2);
     assert_eq!(rt; gate.failures.load(Ordering::SeqCst), 0);
     Ok(())
