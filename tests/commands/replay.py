@@ -48,15 +48,16 @@ def record(folder, name, image, *slices):
 
 
 def check_runs(shelf):
-    """From each point of each recorded run the text is the end of the whole one, behind a block of its own; at every
-    other point it is told what is lost first."""
+    """From each point of each recorded run the text is the end of the whole one, behind a block of its own, by any number
+    of workers; at every other point it is told what is lost first."""
     for name, folder, image, dump, fields, text in recorded(shelf):
         words, _ = shape_of(read(os.path.join(folder, image)))
         for point in range(fields.control.total + 2):
             refusal = lost(fields, point)
             status, out = (7, b"") if refusal else (0, text_from(text, words, point))
             err = f"tm: point {refusal}" if refusal else ""
-            check(f"{name} from {point}", ["replay", image, dump, "--from", str(point)], status, out, err, folder)
+            words = ["replay", image, dump, "--from", str(point), f"--workers={1 + point % 16}"]
+            check(f"{name} from {point}", words, status, out, err, folder)
 
 
 def check_lost(folder):
@@ -141,6 +142,9 @@ def check_words(folder):
         ["--from=1", image, dump],
         [image, "--from", "1", dump],
         [image, dump, "--from", "00000000000000000001"],
+        [image, dump, "--from=1", "--workers", "16"],
+        ["--workers=2", image, "--from", "1", dump],
+        [image, dump, "--workers", "01", "--from", "1"],
     ):
         check(f"replay {' '.join(words)}", ["replay", *words], 0, text, "", folder)
     for words in (
@@ -164,6 +168,11 @@ def check_words(folder):
         [image, dump, "--", "--from", "1"],
         [image, "-", "--from", "1"],
         [image, "", "--from", "1"],
+        [image, dump, "--workers", "2"],
+        [image, dump, "--from", "1", "--workers", "0"],
+        [image, dump, "--from", "1", "--workers", "17"],
+        [image, dump, "--from", "1", "--workers=1", "--workers=1"],
+        [image, dump, "--from", "1", "--workers="],
     ):
         check(f"replay {' '.join(words)}", ["replay", *words], 2, b"", "tm: words", folder)
     check("a point past all", ["replay", image, dump, "--from=18446744073709551615"], 7, b"", "tm: point unknown 3", folder)

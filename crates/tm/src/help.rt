@@ -8,12 +8,16 @@ tm runs preemptive control software, prints or records what it did, and replays 
     tm trace IMAGE PLAN             prints the whole run of the plan on the image, from boot
     tm record IMAGE PLAN DUMP       puts the dump of that run's buffers, and prints nothing
     tm points IMAGE DUMP            prints the points from which the dump can be replayed
-    tm replay IMAGE DUMP --from P   prints the run from point P on, as the dump tells it
+    tm replay IMAGE DUMP --from P [--workers W]
+                                    prints the run from point P on, as the dump tells it, by W workers
+    tm make N                       runs, records and replays the control cell on a plan made from N,
+                                    and prints a summary
     tm --help                       prints this
     tm --version                    prints the version
 
 IMAGE, PLAN and DUMP are names of files. A name isn't empty and doesn't begin with a dash.
-P is 1 to 20 decimal digits; --from P, or --from=P, stands anywhere behind the command.
+Numbers are 1 to 20 decimal digits: P is below 2^64, N below 2^32, and W is 1 to 16.
+An option stands anywhere behind the command, as --from P or --from=P.
 A status other than 0 is told by one line on standard error.
 
     0   the text was printed, or the dump put

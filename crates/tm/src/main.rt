@@ -6,7 +6,7 @@ mod help;
 use std::env;
 use std::io::{self, Write};
 use std::process::ExitCode;
-use tm_io::{FileShelf, OutSink};
+use tm_io::{FileShelf, Open, OutSink};
 use tm_prog::{Status, tm};
 
 /// The words after the program's name. A word that is no UTF-8 makes them words of no form.
@@ -62,6 +62,7 @@ fn main(rt: HostRuntime) -> ExitCode {
                 &words,
                 &mut FileShelf::new(&rt),
                 &mut OutSink::new(&rt),
+                &Open,
             ),
         },
         Err(status) => status,

@@ -3,11 +3,11 @@ use Rattle.std.proofs.Common.{◌≡◌, ◌≢◌, ℕ, List, Option, Some, Non
 use Rattle.tm_io.specs.Shelf.{ShelfView}
 use Rattle.tm_io.specs.Sink.{SinkView}
 use Rattle.tm_prog.specs.declared.status.Status.{Status}
-use Rattle.tm_prog.specs.declared.command.Command.{Command}
+use Rattle.tm_words.specs.declared.command.Command.{Command}
 use Rattle.tm_prog.specs.Class.{Class, Done, HalfDone, Unasked, Unread, Starved, Refusal}
 use Rattle.tm_prog.specs.Made.{MadeView}
 use Rattle.tm_prog.specs.Reads.{IsUnmade}
-use Rattle.tm_prog.specs.Command.{IsMadeFor}
+use Rattle.tm_prog.specs.MadeFor.{IsMadeFor}
 use Rattle.tm_prog.specs.Answer.{made_of, answer_of}
 use Rattle.tm_prog.specs.World.{World, world, all_done, IsHalfDone}
 use Rattle.tm_prog.specs.Outcome.{Ends, IsAnswer}

@@ -10,11 +10,11 @@ use Rattle.tm_io.specs.Shelf.{ShelfView, put_in, get_failed, held, PutFailed}
 use Rattle.tm_io.specs.Sink.{SinkView, took, write_failed}
 use Rattle.tm_prog.specs.declared.status.Status.{Status}
 use Rattle.tm_prog.specs.declared.status.Status.TheVariants as status
-use Rattle.tm_prog.specs.declared.command.Command.{Command}
+use Rattle.tm_words.specs.declared.command.Command.{Command}
 use Rattle.tm_prog.specs.Class.{Class, class_of, Done, HalfDone, Unasked, Unread, Starved, Refusal}
 use Rattle.tm_prog.specs.Made.{PutView, MadeView}
 use Rattle.tm_prog.specs.Reads.{CanRefuse}
-use Rattle.tm_prog.specs.Command.{names_put, IsMadeFor}
+use Rattle.tm_prog.specs.MadeFor.{names_put, IsMadeFor}
 use Rattle.tm_prog.specs.Answer.{answer_of}
 use Rattle.tm_prog.specs.World.{World, all_put, all_done, PutsStopped, IsHalfDone}
 use Rattle.tm_prog.specs.Outcome.{Ends, Counts, CountsStay, GetCounted, PutCounted, WriteCounted, Stays, OthersStay, NoneRose, IsDone}

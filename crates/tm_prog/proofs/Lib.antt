@@ -6,7 +6,6 @@ pub mod Traced
 pub mod Delivering
 pub mod Answering
 pub mod Consequences
-pub mod WordsLemmas
 pub mod ToldRuns
 pub mod RunEnds
 pub mod Told

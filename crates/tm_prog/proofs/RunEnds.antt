@@ -12,8 +12,8 @@ use Rattle.tm_points.specs.Finder.{lost_of}
 use Rattle.tm_points.specs.Points.{points_of}
 use Rattle.tm_prog.specs.declared.status.Status.{Status}
 use Rattle.tm_prog.specs.declared.status.Status.TheVariants as status
-use Rattle.tm_prog.specs.declared.command.Command.{Command}
-use Rattle.tm_prog.specs.declared.command.Command.TheVariants.{Points, Replay}
+use Rattle.tm_words.specs.declared.command.Command.{Command}
+use Rattle.tm_words.specs.declared.command.Command.TheVariants.{Points, Replay}
 use Rattle.tm_prog.specs.Class.{class_of}
 use Rattle.tm_prog.specs.Made.{MadeView, prints, text_alone}
 use Rattle.tm_prog.specs.Answer.{answer_of}
@@ -102,7 +102,7 @@ replay_is_text : (command : Option Command) (image : ImageView) (script : List S
     IsTrue before.shelf.tells → IsReplayOf command before.shelf.content image script point → IsAccepted image (run image script) point →
     IsText command before (text_of_run image script point)
 replay_is_text command image script point before tells r accepted = record {
-  asks = Replay r.image_name r.dump_name point;
+  asks = Replay r.image_name r.dump_name point r.workers;
   command_is = r.asked;
   tells = tells;
   plain = ap (λ (q : Option Command). answer_of q before.shelf.content) r.asked ∙
@@ -122,7 +122,7 @@ replay_ends s command image script point before after tells r e (Some lost) is =
     from_lost s command image script point before after lost
     (λ accepted. let none = (scripts_are_found image script point image_is).1 accepted in cc)
     (record {
-      asks = Replay r.image_name r.dump_name point;
+      asks = Replay r.image_name r.dump_name point r.workers;
       command_is = r.asked;
       tells = tells;
       plain = ap (λ (q : Option Command). answer_of q before.shelf.content) r.asked ∙

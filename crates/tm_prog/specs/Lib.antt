@@ -2,14 +2,13 @@ pub mod Class
 pub mod Status
 pub mod Made
 pub mod Reads
-pub mod Words
-pub mod WordsFound
-pub mod Command
+pub mod MadeFor
 pub mod Files
 pub mod TraceCommand
 pub mod RecordCommand
 pub mod PointsCommand
 pub mod ReplayCommand
+pub mod MakeCommand
 pub mod Answer
 pub mod World
 pub mod Outcome

@@ -3,11 +3,11 @@ use Rattle.std.specs.Prelude.{◌≡◌, ◌≢◌, ℕ, ◌⊎◌, Bool, List, 
 use Rattle.tm_io.specs.Counts.{Rose, counted}
 use Rattle.tm_prog.specs.declared.status.Status.{Status}
 use Rattle.tm_prog.specs.declared.status.Status.TheVariants.{Ok as OkStatus, Words, Memory}
-use Rattle.tm_prog.specs.declared.command.Command.{Command}
+use Rattle.tm_words.specs.declared.command.Command.{Command}
 use Rattle.tm_prog.specs.Class.{Class, class_of, Done, HalfDone, Unasked, Unread, Starved, Refusal}
 use Rattle.tm_prog.specs.Made.{MadeView}
 use Rattle.tm_prog.specs.Reads.{IsUnmade}
-use Rattle.tm_prog.specs.Command.{names_put, prints_text, IsMadeFor}
+use Rattle.tm_prog.specs.MadeFor.{names_put, prints_text, IsMadeFor}
 use Rattle.tm_prog.specs.Answer.{answer_of}
 use Rattle.tm_prog.specs.World.{World, all_done, IsHalfDone}
 

@@ -1,4 +1,4 @@
--- The plain answer to `replay IMAGE DUMP --from P`.
+-- The plain answer to `replay IMAGE DUMP --from P`, which is the same for every number of workers.
 use Rattle.std.specs.Prelude.{ℕ, List, Option, Some, None, Result, Ok, Err}
 use Rattle.tm_image.specs.Image.{ImageView}
 use Rattle.tm_log.specs.Window.{WindowView}

@@ -12,8 +12,8 @@ use Rattle.tm_widths.specs.Legible.{IsScript}
 use Rattle.tm_prog.specs.declared.limits.TheConstants.{DUMP_LIMIT}
 use Rattle.tm_prog.specs.declared.status.Status.{Status}
 use Rattle.tm_prog.specs.declared.status.Status.TheVariants as status
-use Rattle.tm_prog.specs.declared.command.Command.{Command}
-use Rattle.tm_prog.specs.declared.command.Command.TheVariants.{Points, Replay}
+use Rattle.tm_words.specs.declared.command.Command.{Command}
+use Rattle.tm_words.specs.declared.command.Command.TheVariants.{Points, Replay}
 use Rattle.tm_prog.specs.Made.{MadeView, text_alone}
 use Rattle.tm_prog.specs.Files.{image_in}
 use Rattle.tm_prog.specs.RecordCommand.{dump_of_run}
@@ -32,11 +32,12 @@ abbrev pub RunDumpsFit : Type 0
 RunDumpsFit = (image : ImageView) (script : List Slice) → IsImage image → FitsImage image → IsScript script →
     length (dump_of_run image script) ≤ DUMP_LIMIT
 
--- the call asks for a replay of the dump of a run, from a point
+-- the call asks for a replay of the dump of a run, from a point, by any number of workers
 pub record IsReplayOf (command : Option Command) (content : List ℕ → Option (List ℕ)) (image : ImageView) (script : List Slice) (point : ℕ) : Type 0 where
   pub image_name : List ℕ
   pub dump_name : List ℕ
-  pub asked : command ≡ Some (Replay image_name dump_name point)
+  pub workers : ℕ
+  pub asked : command ≡ Some (Replay image_name dump_name point workers)
   pub files : HaveDumpOfRun content image_name dump_name image script
 
 -- the call asks for the points of the dump of a run

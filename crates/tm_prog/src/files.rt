@@ -6,13 +6,13 @@ ghost use Rattle.tm_prog.specs.Files.{image_status, plan_status, dump_status};
 ghost use Rattle.tm_prog.specs.Reads.{CanRefuse, Reads, Says, file_in};
 
 use crate::Status;
-use crate::command::Name;
 use crate::limits::{DUMP_LIMIT, IMAGE_LIMIT, PLAN_LIMIT};
 use std::alloc::Global;
 use tm_dump::{DumpFault, read_dump};
 use tm_image::{Image, ImageFault, Plan, PlanFault, Reason, read_image, read_plan};
 use tm_io::{GetFault, Shelf};
 use tm_log::Window;
+use tm_words::Name;
 
 /// A kind of file: how long one may be, and what its bytes say, beside what was read before it.
 pub(crate) trait FileKind<C> {
@@ -127,7 +127,7 @@ pub(crate) fn read_file<V: FileKind<C>, C, F: Shelf>(
     alloc: Global,
     shelf: &mut F,
     number: u8,
-    name: &Name<'_>,
+    name: &Name,
     beside: &C,
 ) -> Result<V, Status>
     requires { CanRefuse (Status.TooLong number) }

@@ -12,14 +12,13 @@ ghost use Rattle.tm_prog.specs.declared.status.Status.{Status};
 ghost use Rattle.tm_prog.specs.Class.{class_of};
 ghost use Rattle.tm_prog.specs.Made.{MadeView};
 ghost use Rattle.tm_prog.specs.Reads.{CanRefuse};
-ghost use Rattle.tm_prog.specs.Words.{texts};
-ghost use Rattle.tm_prog.specs.Command.{command_of};
+ghost use Rattle.tm_words.specs.Words.{texts};
+ghost use Rattle.tm_words.specs.Command.{command_of, IsInRange};
 ghost use Rattle.tm_prog.specs.Answer.{answer_of};
 ghost use Rattle.tm_prog.specs.World.{world, IsReady};
 ghost use Rattle.tm_prog.specs.RunDumps.{IsReplayOf, ReplaysRun, IsListOf, ListsRun};
 ghost use Rattle.tm_prog.specs.Outcome.{Ends, Counts, Stays, OthersStay, IsSilent, IsDone, NoneRose};
 
-mod command;
 mod commands;
 mod deliver;
 mod digits;
@@ -32,29 +31,29 @@ mod status;
 mod teller;
 mod trace;
 mod views;
-mod words;
 
-use command::command_of;
 use commands::made_of;
 use deliver::deliver;
 pub use limits::{DUMP_LIMIT, IMAGE_LIMIT, PLAN_LIMIT, limits_are, run_dumps_fit};
 pub use status::Status;
 use std::alloc::Global;
 use std::thread::Threads;
-use tm_io::{Shelf, Sink};
+use tm_io::{Gate, Shelf, Sink};
+use tm_words::{Command, command_of};
 
 /// Does what the words ask for: gets the files that they name, puts what is to be put, and writes the text
 /// that answers.
 ///
 /// The words are read first, then each file is got and read in turn, then all that is to be put and written
 /// is made, and then it is put and written. The first of these that fails is answered. Want of memory never
-/// comes after the first put or write.
-pub fn tm<F: Shelf, K: Sink>(
+/// comes after the first put or write. The gate is told what the workers of a replay are about to do.
+pub fn tm<F: Shelf, K: Sink, G: Gate>(
     rt: &(impl Threads + Sync),
     alloc: Global,
     words: &[String],
     shelf: &mut F,
     out: &mut K,
+    gate: &G,
 ) -> Status
     // The words alone decide whether they are refused.
     ensures words { (result ≡ Status.Words) ↔ (command_of (texts words.now) ≡ None) }
@@ -91,16 +90,17 @@ pub fn tm<F: Shelf, K: Sink>(
     ensures unwritten { IsSilent (command_of (texts words.now)) → out.new ≡ out.old }
     ensures refusals { CanRefuse result }
 {
-    answered(rt, alloc, words, shelf, out)
+    answered(rt, alloc, words, shelf, out, gate)
 }
 
 /// The call, and its plain answer.
-fn answered<F: Shelf, K: Sink>(
+fn answered<F: Shelf, K: Sink, G: Gate>(
     rt: &(impl Threads + Sync),
     alloc: Global,
     words: &[String],
     shelf: &mut F,
     out: &mut K,
+    gate: &G,
 ) -> Status
     ensures words { (result ≡ Status.Words) ↔ (command_of (texts words.now) ≡ None) }
     ensures answer { Ends (class_of result) result (command_of (texts words.now))
@@ -112,11 +112,34 @@ fn answered<F: Shelf, K: Sink>(
     ensures untouched { result ≢ Status.Ok → result ≢ Status.WriteFault → out.new ≡ out.old }
     ensures unwritten { IsSilent (command_of (texts words.now)) → out.new ≡ out.old }
 {
-    let command = match command_of(words) {
-        Some(command) => command,
-        None => return Status::Words,
-    };
-    let made = match made_of(rt, alloc, shelf, &command) {
+    match command_of(alloc, words) {
+        Ok(Some(command)) => obey(rt, alloc, &command, shelf, out, gate),
+        Ok(None) => Status::Words,
+        Err(_) => Status::Memory,
+    }
+}
+
+/// Does what a command asks for.
+fn obey<F: Shelf, K: Sink, G: Gate>(
+    rt: &(impl Threads + Sync),
+    alloc: Global,
+    command: &Command,
+    shelf: &mut F,
+    out: &mut K,
+    gate: &G,
+) -> Status
+    requires range { IsInRange command.now }
+    ensures asked { result ≢ Status.Words }
+    ensures answer { Ends (class_of result) result (Some command.now)
+        (world (F.seen shelf.old) (K.seen out.old)) (world (F.seen shelf.new) (K.seen out.new)) }
+    ensures ready { (made : MadeView) →
+        answer_of (Some command.now) (F.seen shelf.old).content ≡ Some (Ok made) →
+        IsReady made (world (F.seen shelf.old) (K.seen out.old)) →
+        IsDone result }
+    ensures untouched { result ≢ Status.Ok → result ≢ Status.WriteFault → out.new ≡ out.old }
+    ensures unwritten { IsSilent (Some command.now) → out.new ≡ out.old }
+{
+    let made = match made_of(rt, alloc, shelf, gate, command) {
         Ok(made) => made,
         Err(status) => return status,
     };

@@ -2,9 +2,9 @@
 
 ghost use Rattle.std.specs.Prelude.{◌≡◌, [], ◌∷◌, IfOk};
 
-use crate::command::Name;
 use std::alloc::{AllocError, Global};
 use std::marker::Model;
+use tm_words::Name;
 
 /// Bytes to put under a name.
 #[derive(Drop)]
@@ -64,7 +64,7 @@ impl<'a> Made<'a> {
     /// One put alone.
     pub(crate) fn put_alone(
         alloc: Global,
-        name: &Name<'a>,
+        name: &'a Name,
         bytes: Vec<u8>,
     ) -> Result<Made<'a>, AllocError>
         ensures { IfOk result (λ made. made ≡ record { puts = record { name = name.now; bytes = bytes.items } ∷ []; text = [] }) }

@@ -2,7 +2,7 @@
 
 use std::alloc::{AllocError, Global};
 use std::thread::Threads;
-use tm_io::{MemShelf, MemSink};
+use tm_io::{MemShelf, MemSink, Open};
 use tm_prog::{Status, tm};
 
 /// The words of a call.
@@ -34,5 +34,5 @@ pub fn trace(
     shelf: &mut MemShelf,
     sink: &mut MemSink,
 ) -> Result<Status, AllocError> {
-    Ok(tm(rt, alloc, &words(alloc, &["trace", "i", "p"])?, shelf, sink))
+    Ok(tm(rt, alloc, &words(alloc, &["trace", "i", "p"])?, shelf, sink, &Open))
 }

@@ -6,7 +6,6 @@ ghost use Rattle.tm_prog.specs.PointsCommand.{points_made, point_line};
 ghost use Rattle.tm_prog.specs.Reads.{Reads};
 
 use crate::Status;
-use crate::command::Name;
 use crate::digits::put_decimal;
 use crate::files::read_file;
 use crate::made::Made;
@@ -16,14 +15,15 @@ use tm_image::Image;
 use tm_io::Shelf;
 use tm_log::Window;
 use tm_points::points as points_of;
+use tm_words::Name;
 
 /// Makes the list of the points from which the dump can be replayed.
 pub(crate) fn points<'a, F: Shelf>(
     rt: &(impl Threads + Sync),
     alloc: Global,
     shelf: &mut F,
-    image: &Name<'_>,
-    dump: &Name<'_>,
+    image: &Name,
+    dump: &Name,
 ) -> Result<Made<'a>, Status>
     ensures reads { Reads (points_made (F.seen shelf.old).content image.now dump.now) (F.seen shelf.old) (F.seen shelf.new) result }
     ensures puts { IfOk result (λ made. made.puts ≡ []) }

@@ -5,21 +5,21 @@ ghost use Rattle.tm_prog.specs.RecordCommand.{record_made};
 ghost use Rattle.tm_prog.specs.Reads.{Reads};
 
 use crate::Status;
-use crate::command::Name;
 use crate::files::read_file;
 use crate::made::Made;
 use crate::record::record_run;
 use std::alloc::Global;
 use tm_image::{Image, Plan};
 use tm_io::Shelf;
+use tm_words::Name;
 
 /// Makes the dump of the whole run of the plan on the image.
 pub(crate) fn record<'a, F: Shelf>(
     alloc: Global,
     shelf: &mut F,
-    image: &Name<'_>,
-    plan: &Name<'_>,
-    dump: &Name<'a>,
+    image: &Name,
+    plan: &Name,
+    dump: &'a Name,
 ) -> Result<Made<'a>, Status>
     ensures reads { Reads (record_made (F.seen shelf.old).content image.now plan.now dump.now) (F.seen shelf.old) (F.seen shelf.new) result }
     ensures puts { IfOk result (λ made. map (λ p. p.name) made.puts ≡ dump.now ∷ []) }

@@ -1,6 +1,6 @@
-//! `replay IMAGE DUMP --from P`
+//! `replay IMAGE DUMP --from P [--workers W]`
 
-ghost use Rattle.std.specs.Prelude.{◌≡◌, [], None, IfOk};
+ghost use Rattle.std.specs.Prelude.{◌≡◌, ◌≤◌, [], None, IfOk};
 ghost use Rattle.tm_image.specs.Image.{shape_of};
 ghost use Rattle.tm_log.specs.WellFormed.{IsWellFormed};
 ghost use Rattle.tm_points.specs.Finder.{lost_of};
@@ -10,24 +10,30 @@ ghost use Rattle.tm_prog.specs.ReplayCommand.{replay_made, unless_lost};
 ghost use Rattle.tm_prog.specs.Reads.{Reads, Says};
 
 use crate::Status;
-use crate::command::Name;
 use crate::files::read_file;
 use crate::made::Made;
 use std::alloc::{AllocError, Global};
+use std::thread::Threads;
 use tm_image::Image;
-use tm_io::Shelf;
+use tm_io::{Gate, Shelf};
 use tm_log::Window;
-use tm_replay::{ReplayFault, replay as replay_of};
+use tm_replay::ReplayFault;
 use tm_text::{Replay, write_replay};
+use tm_words::Name;
+use tm_workers::replay_with;
 
-/// Makes the text that the dump tells of its run from the point on.
-pub(crate) fn replay<'a, F: Shelf>(
+/// Makes the text that the dump tells of its run from the point on, by 1 to 16 workers.
+pub(crate) fn replay<'a, F: Shelf, G: Gate>(
+    rt: &(impl Threads + Sync),
     alloc: Global,
     shelf: &mut F,
-    image: &Name<'_>,
-    dump: &Name<'_>,
+    image: &Name,
+    dump: &Name,
     from: u64,
+    workers: u8,
+    gate: &G,
 ) -> Result<Made<'a>, Status>
+    requires { (1 ≤ workers) × (workers ≤ 16) }
     ensures reads { Reads (replay_made (F.seen shelf.old).content image.now dump.now from) (F.seen shelf.old) (F.seen shelf.new) result }
     ensures puts { IfOk result (λ made. made.puts ≡ []) }
 {
@@ -39,16 +45,25 @@ pub(crate) fn replay<'a, F: Shelf>(
         Ok(window) => window,
         Err(status) => return Err(status),
     };
-    told(alloc, &window, &image, from)
+    told(rt, alloc, &window, &image, from, workers, gate)
 }
 
 /// What a window tells from a point on.
-fn told<'a>(alloc: Global, window: &Window, image: &Image, from: u64) -> Result<Made<'a>, Status>
-    requires { IsWellFormed window.now (shape_of image.now) }
+fn told<'a, G: Gate>(
+    rt: &(impl Threads + Sync),
+    alloc: Global,
+    window: &Window,
+    image: &Image,
+    from: u64,
+    workers: u8,
+    gate: &G,
+) -> Result<Made<'a>, Status>
+    requires formed { IsWellFormed window.now (shape_of image.now) }
+    requires workers { (1 ≤ workers) × (workers ≤ 16) }
     ensures says { Says (unless_lost image.now window.now from (lost_of window.now from)) result }
     ensures puts { IfOk result (λ made. made.puts ≡ []) }
 {
-    let replay = match replay_of(alloc, window, image, from) {
+    let replay = match replay_with(rt, alloc, window, image, from, workers, gate) {
         Ok(replay) => replay,
         Err(ReplayFault::Lost(lost)) => return Err(Status::Point(lost)),
         Err(ReplayFault::Diverged(found)) => return Err(Status::Diverged(found)),

@@ -5,20 +5,20 @@ ghost use Rattle.tm_prog.specs.TraceCommand.{trace_made};
 ghost use Rattle.tm_prog.specs.Reads.{Reads};
 
 use crate::Status;
-use crate::command::Name;
 use crate::files::read_file;
 use crate::made::Made;
 use crate::trace::trace as text_of_run;
 use std::alloc::Global;
 use tm_image::{Image, Plan};
 use tm_io::Shelf;
+use tm_words::Name;
 
 /// Makes the text of the whole run of the plan on the image.
 pub(crate) fn trace<'a, F: Shelf>(
     alloc: Global,
     shelf: &mut F,
-    image: &Name<'_>,
-    plan: &Name<'_>,
+    image: &Name,
+    plan: &Name,
 ) -> Result<Made<'a>, Status>
     ensures reads { Reads (trace_made (F.seen shelf.old).content image.now plan.now) (F.seen shelf.old) (F.seen shelf.new) result }
     ensures puts { IfOk result (λ made. made.puts ≡ []) }

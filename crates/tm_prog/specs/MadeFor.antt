@@ -1,0 +1,26 @@
+-- Under which names a command puts, and whether it prints.
+use Rattle.std.specs.Prelude.{◌≡◌, ℕ, Bool, true, false, List, [], ◌∷◌, map}
+use Rattle.tm_words.specs.declared.command.Command.{Command}
+use Rattle.tm_words.specs.declared.command.Command.TheVariants.{Trace, Record, Points, Replay, Make}
+use Rattle.tm_prog.specs.Made.{MadeView}
+
+-- the names that a command puts, in this order
+abbrev pub names_put : Command → List (List ℕ)
+names_put (Trace image plan) = []
+names_put (Record image plan dump) = dump ∷ []
+names_put (Points image dump) = []
+names_put (Replay image dump point workers) = []
+names_put (Make number) = []
+
+-- whether a command prints a text
+abbrev pub prints_text : Command → Bool
+prints_text (Trace image plan) = true
+prints_text (Record image plan dump) = false
+prints_text (Points image dump) = true
+prints_text (Replay image dump point workers) = true
+prints_text (Make number) = true
+
+-- what was made is put under the names of the command, and has a text only where the command prints one
+pub record IsMadeFor (command : Command) (made : MadeView) : Type 0 where
+  pub names : map (λ p. p.name) made.puts ≡ names_put command
+  pub silent : prints_text command ≡ false → made.text ≡ []
