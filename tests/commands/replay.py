@@ -56,8 +56,8 @@ def check_runs(shelf):
             refusal = lost(fields, point)
             status, out = (7, b"") if refusal else (0, text_from(text, words, point))
             err = f"tm: point {refusal}" if refusal else ""
-            words = ["replay", image, dump, "--from", str(point), f"--workers={1 + point % 16}"]
-            check(f"{name} from {point}", words, status, out, err, folder)
+            call = ["replay", image, dump, "--from", str(point), f"--workers={1 + point % 16}"]
+            check(f"{name} from {point}", call, status, out, err, folder)
 
 
 def check_lost(folder):
