@@ -34,5 +34,12 @@ pub fn trace(
     shelf: &mut MemShelf,
     sink: &mut MemSink,
 ) -> Result<Status, AllocError> {
-    Ok(tm(rt, alloc, &words(alloc, &["trace", "i", "p"])?, shelf, sink, &Open))
+    Ok(tm(
+        rt,
+        alloc,
+        &words(alloc, &["trace", "i", "p"])?,
+        shelf,
+        sink,
+        &Open,
+    ))
 }

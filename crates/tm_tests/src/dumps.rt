@@ -17,7 +17,10 @@ fn the_dump_of_a_run_is_put_and_its_points_are_listed(rt: HostRuntime) -> Result
     let mut sink = MemSink::new(alloc, 64, &[])?;
     sink.room(6)?;
     let record = words(alloc, &["record", "i", "p", "d"])?;
-    assert_eq!(rt; tm(&rt, alloc, &record, &mut shelf, &mut sink, &Open), Status::Ok);
+    assert_eq!(rt;
+        tm(&rt, alloc, &record, &mut shelf, &mut sink, &Open),
+        Status::Ok
+    );
     assert_eq!(rt; sink.bytes(), b"".as_slice());
     assert_eq!(rt; shelf.content("p"), Some(PLAN));
     let dump = shelf.content("d").expect(&rt, "the dump");
@@ -27,7 +30,10 @@ fn the_dump_of_a_run_is_put_and_its_points_are_listed(rt: HostRuntime) -> Result
     assert_eq!(rt; &dump[46..48], [0xff, 5].as_slice());
     assert_eq!(rt; &dump[81..83], [0, 2].as_slice());
     let points = words(alloc, &["points", "i", "d"])?;
-    assert_eq!(rt; tm(&rt, alloc, &points, &mut shelf, &mut sink, &Open), Status::Ok);
+    assert_eq!(rt;
+        tm(&rt, alloc, &points, &mut shelf, &mut sink, &Open),
+        Status::Ok
+    );
     assert_eq!(rt; sink.bytes(), b"0\n1\n2\n".as_slice());
     Ok(())
 }

@@ -45,7 +45,14 @@ fn words_of_no_form_are_refused(rt: HostRuntime) -> Result<(), Fail> {
     for case in cases {
         let mut shelf = shelf(alloc, IMAGE, PLAN, &[])?;
         let mut sink = MemSink::new(alloc, 64, &[])?;
-        let status = tm(&rt, alloc, &words(alloc, case)?, &mut shelf, &mut sink, &Open);
+        let status = tm(
+            &rt,
+            alloc,
+            &words(alloc, case)?,
+            &mut shelf,
+            &mut sink,
+            &Open,
+        );
         assert_eq!(rt; status, Status::Words, "{case:?}");
         assert!(rt; sink.bytes().is_empty());
     }
@@ -95,7 +102,7 @@ fn texts_are_refused_by_line_and_reason(rt: HostRuntime) -> Result<(), Fail> {
     for (image, plan, wanted) in cases {
         let mut shelf = shelf(alloc, image, plan, &[])?;
         let mut sink = MemSink::new(alloc, 64, &[])?;
-        assert_eq!(rt; trace(&rt, alloc, &mut shelf, &mut sink, &Open)?, wanted);
+        assert_eq!(rt; trace(&rt, alloc, &mut shelf, &mut sink)?, wanted);
         assert!(rt; sink.bytes().is_empty());
     }
     Ok(())
@@ -125,17 +132,17 @@ fn files_that_are_not_there_are_read_faults(rt: HostRuntime) -> Result<(), Fail>
     let mut shelf = MemShelf::new(alloc, &[])?;
     let mut sink = MemSink::new(alloc, 64, &[])?;
     assert_eq!(rt;
-        trace(&rt, alloc, &mut shelf, &mut sink, &Open)?,
+        trace(&rt, alloc, &mut shelf, &mut sink)?,
         Status::ReadFault
     );
     shelf.add("i", IMAGE)?;
     assert_eq!(rt;
-        trace(&rt, alloc, &mut shelf, &mut sink, &Open)?,
+        trace(&rt, alloc, &mut shelf, &mut sink)?,
         Status::ReadFault
     );
     shelf.add("p", PLAN)?;
     sink.room(LENGTH)?;
-    assert_eq!(rt; trace(&rt, alloc, &mut shelf, &mut sink, &Open)?, Status::Ok);
+    assert_eq!(rt; trace(&rt, alloc, &mut shelf, &mut sink)?, Status::Ok);
     assert_eq!(rt; sink.bytes().len(), LENGTH);
     Ok(())
 }
@@ -155,7 +162,7 @@ fn a_call_that_fails_is_told_and_leaves_a_beginning(rt: HostRuntime) -> Result<(
         let mut shelf = shelf(alloc, IMAGE, PLAN, gets)?;
         let mut sink = MemSink::new(alloc, most, writes)?;
         sink.room(LENGTH)?;
-        assert_eq!(rt; trace(&rt, alloc, &mut shelf, &mut sink, &Open)?, wanted);
+        assert_eq!(rt; trace(&rt, alloc, &mut shelf, &mut sink)?, wanted);
         assert_eq!(rt; sink.bytes().len(), length);
     }
     Ok(())
@@ -176,7 +183,10 @@ fn a_put_that_fails_is_told_and_leaves_the_other_names(rt: HostRuntime) -> Resul
         shelf.room("d", room)?;
         let mut sink = MemSink::new(alloc, 64, &[])?;
         let words = words(alloc, &["record", "i", "p", "d"])?;
-        assert_eq!(rt; tm(&rt, alloc, &words, &mut shelf, &mut sink, &Open), wanted);
+        assert_eq!(rt;
+            tm(&rt, alloc, &words, &mut shelf, &mut sink, &Open),
+            wanted
+        );
         assert_eq!(rt; shelf.content("i"), Some(IMAGE));
         assert_eq!(rt; shelf.content("p"), Some(PLAN));
         assert!(rt; sink.bytes().is_empty());
@@ -191,7 +201,10 @@ fn a_dump_may_take_the_place_of_a_file_that_was_read(rt: HostRuntime) -> Result<
     shelf.room("i", 508)?;
     let mut sink = MemSink::new(alloc, 64, &[])?;
     let words = words(alloc, &["record", "i", "p", "i"])?;
-    assert_eq!(rt; tm(&rt, alloc, &words, &mut shelf, &mut sink, &Open), Status::Ok);
+    assert_eq!(rt;
+        tm(&rt, alloc, &words, &mut shelf, &mut sink, &Open),
+        Status::Ok
+    );
     assert_eq!(rt; shelf.content("i").map(|bytes| bytes.len()), Some(508));
     Ok(())
 }
@@ -203,7 +216,7 @@ fn a_sink_without_room_is_a_write_fault(rt: HostRuntime) -> Result<(), Fail> {
     let mut sink = MemSink::new(alloc, 64, &[])?;
     sink.room(LENGTH - 1)?;
     assert_eq!(rt;
-        trace(&rt, alloc, &mut shelf, &mut sink, &Open)?,
+        trace(&rt, alloc, &mut shelf, &mut sink)?,
         Status::WriteFault
     );
     assert!(rt; sink.bytes().is_empty());

@@ -4,7 +4,7 @@ use crate::calls::{shelf, trace};
 use std::alloc::Global;
 use std::test::Fail;
 use std::thread::Threads;
-use tm_io::{MemSink, Open};
+use tm_io::MemSink;
 use tm_prog::Status;
 
 /// An image, a plan, and the text of the whole run.
@@ -482,7 +482,7 @@ fn text_of(
     let mut shelf = shelf(alloc, case.image.as_bytes(), case.plan.as_bytes(), &[])?;
     let mut sink = MemSink::new(alloc, 4096, &[])?;
     sink.room(1 << 16)?;
-    let status = trace(rt, alloc, &mut shelf, &mut sink, &Open)?;
+    let status = trace(rt, alloc, &mut shelf, &mut sink)?;
     if status != Status::Ok {
         return Ok(None);
     }
