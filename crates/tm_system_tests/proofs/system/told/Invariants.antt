@@ -1,5 +1,5 @@
 use Rattle.std.proofs.Common.{◌≡◌}
-use Rattle.tm_machine_tests.proofs.system.told.Given as goal
+use Rattle.tm_system_tests.proofs.system.told.Given as goal
 
 abbrev pub invariant-loop : goal.invariant-loop
 invariant-loop g l = l.machine.kernel.spec ≡ l.image.spec
