@@ -12,7 +12,7 @@ sys.dont_write_bytecode = True
 
 import shared
 
-COMMANDS = ("trace", "record", "points", "replay", "make", "puts", "faults", "information")
+COMMANDS = ("trace", "record", "points", "replay", "make", "puts", "faults", "information", "pages")
 
 
 def main():

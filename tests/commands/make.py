@@ -1,5 +1,7 @@
 """`tm make`: the summaries of two made runs, and the words that are refused."""
-from shared import check
+import os
+
+from shared import check, equal, examples, read, top
 
 SUMMARIES = {
     "0": b"make 0\nslices 20000\nentries 59155\npoints 60\nleast 59096\nbytes 6409\n",
@@ -7,7 +9,14 @@ SUMMARIES = {
 }
 
 
+def check_image():
+    """The image that the program carries is the one of examples/cell."""
+    carried = read(os.path.join(top, "crates", "tm_make", "src", "cell.rt"))
+    equal("the image of make", carried.split(b'"\\\n')[1].split(b'";')[0], read(os.path.join(examples, "cell", "cell.tmi")))
+
+
 def main():
+    check_image()
     for number, text in SUMMARIES.items():
         check(f"make {number}", ["make", number], 0, text, "")
     check("make twice the same", ["make", "00000000000000000001"], 0, SUMMARIES["1"], "")
