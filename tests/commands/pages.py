@@ -12,6 +12,12 @@ from shared import equal, expect, program, read, run, top
 
 PAGES = ("README.md", "examples/README.md", "examples/*/README.md", "docs/recording.md", "docs/tasks.md")
 BLOCK = "    "
+SOURCES = {
+    "lost/late.tmi": ("control_late", "sampler"),
+    "lost/early.tmi": ("control_early", "sampler"),
+    "recording/poll.tmi": ("poll",),
+    "recording/mark.tmi": ("mark",),
+}
 
 
 def lines_of(path):
@@ -99,7 +105,7 @@ def check_sources():
     if not all(tools):
         print("pages: the sources are not assembled, there is no clang or llvm-objcopy")
         return
-    for image, tasks in {"lost/late.tmi": ("control_late", "sampler"), "lost/early.tmi": ("control_early", "sampler")}.items():
+    for image, tasks in SOURCES.items():
         path = os.path.join(top, "examples", image)
         for task, name in enumerate(tasks):
             words = [word for line in lines_of(path) if line.startswith(f"text {task} ") for word in line.split()[2:]]
