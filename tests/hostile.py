@@ -1,61 +1,230 @@
-"""Dumps that no run left: changed ones with a fresh closing digest, and what is answered to them."""
-import hashlib
+#!/usr/bin/env python3
+"""Images, plans, dumps and words that nobody would write, given to the built program over real files. No model says what
+is to come; what holds of every call is checked: it ends in time with a status and a line of docs/messages.md, prints
+nothing beside a line, changes no file but the dump that it puts, and does the same again. A run that is accepted is
+recorded, listed, and replayed from its points to the end of its own trace; a dump with any byte changed is refused.
 
-END = 32
+Usage: hostile.py SEED MINUTES, by hand; or hostile.py SEED ROUND, with a round of the form rN, for one round again.
+A failure names its seed and round."""
+import glob
+import os
+import random
+import re
+import subprocess
+import sys
+import tempfile
+import time
 
+sys.dont_write_bytecode = True
 
-def sealed(body):
-    """The bytes with the digest that closes them."""
-    return body + hashlib.sha256(body).digest()
+from changed_dumps import sealed
+from dumps import decode, shape_of
+from finder import accepted, text_from
+from shared import program, read, top, write
 
-
-def changed(dump, *changes):
-    """The dump with other bytes at some places, sealed anew."""
-    body = bytearray(dump[:-END])
-    for place, byte in changes:
-        body[place] = byte
-    return sealed(bytes(body))
-
-
-def widened(dump, place, count):
-    """The dump with zero bytes put in at a place, sealed anew."""
-    return sealed(dump[:place] + bytes(count) + dump[place:-END])
-
-
-def refused_dumps(dump):
-    """Dumps made of that of the smallest run, 508 bytes, and what they are refused for, by the table of the format."""
-    return [
-        ("no byte", b"", "magic"),
-        ("36 bytes", dump[:36], "magic"),
-        ("37 bytes", dump[:37], "digest"),
-        ("507 bytes", dump[:507], "digest"),
-        ("a byte more", dump + b"\0", "digest"),
-        ("another magic number", changed(dump, (0, 0)), "magic"),
-        ("another version", changed(dump, (4, 2)), "version 2"),
-        ("another image", changed(dump, (5, dump[5] ^ 1)), "other image"),
-        ("no image digest", sealed(dump[:36]), "field 5"),
-        ("an end in the first entry", sealed(dump[:46]), "field 46"),
-        ("two tasks", changed(dump, (37, 2)), "field 37"),
-        ("a third entry", changed(dump, (38, 3)), "field 116"),
-        ("a control total of 2^53", changed(dump, (44, 0x20)), "field 38"),
-        ("an entry of nobody that is not idle", changed(dump, (47, 0)), "field 47"),
-        ("a count of 1048576", changed(dump, (93, 0x10)), "field 91"),
-        ("the task running in the end", changed(dump, (457, 0)), "field 457"),
-        ("an end by a fault", changed(dump, (458, 1)), "field 458"),
-        ("a byte behind the tail", widened(dump, 476, 1), "extra 476"),
-    ]
+REASON = r"(form|number|range|repeated|limit|missing)"
+MARKER = r"\d+\.\d+\.[0-9a-f]{8}"
+LINES = {
+    2: r"tm: words",
+    3: r"tm: read fault",
+    4: rf"tm: image line \d+ {REASON}",
+    5: rf"tm: plan line \d+ {REASON}",
+    6: r"tm: dump (magic|digest|other image|(version|field|extra) \d+)",
+    7: r"tm: point (unknown \d+|control \d+|check \d+ \d+|data \d+ \d+ \d+)",
+    8: rf"tm: diverged at \d+ task \d+ reached {MARKER} wanted {MARKER} "
+    r"(passed|moved|faulted|no fault|no entry|other service|left|other output)",
+}
+NUMBERS = "0 1 2 3 4 5 7 8 15 16 17 63 64 65 255 256 4095 16384 16385 65535 65536 65537 4294967295 4294967296 0x0 0xffff -1".split()
+WORDS = "trace record points replay make live --from --from= --workers --workers= --help --version -- - = --= 0 1 16 17".split()
+MOST_INSTRUCTIONS, IN_TIME = 200_000, 120
 
 
-def diverging_dumps(dump):
-    """Dumps made of that of the smallest run that are well formed, and what of them no run does, from point 0 on."""
-    return [
-        ("another service", changed(dump, (132, 1)), "at 2 task 0 reached 0.0.00000004 wanted 1.0.00000000 other service"),
-        ("a refused answer", changed(dump, (133, 1)), "at 2 task 0 reached 0.0.00000008 wanted 1.0.00000000 faulted"),
-        ("an entry used before", changed(dump, (289, 1)), "at 2 task 0 reached 0.0.00000004 wanted 1.0.00000000 no entry"),
-        ("a fault", changed(dump, (82, 3), (458, 1)), "at 2 task 0 reached 1.0.00000000 wanted 1.0.00000000 no fault"),
-        (
-            "a second entry",
-            widened(changed(dump, (124, 2)), 153, 21),
-            "at 3 task 0 reached 1.0.00000000 wanted 1.0.00000000 left",
-        ),
-    ]
+class Wrong(Exception):
+    """What a call did that no call may do."""
+
+
+class Case:
+    """One round: its chance, and the folder that has its files and nothing else."""
+
+    def __init__(self, seed, number, folder):
+        self.chance = random.Random(f"{seed} {number}")
+        self.folder = folder
+
+    def files(self):
+        return {name: read(os.path.join(self.folder, name)) for name in os.listdir(self.folder)}
+
+    def call(self, *words):
+        """Runs the program, and holds the call to what holds of every call. Gives its status and its text."""
+        before = self.files()
+        try:
+            ended = subprocess.run([program, *words], cwd=self.folder, capture_output=True, timeout=IN_TIME)
+        except subprocess.TimeoutExpired as late:
+            raise Wrong(f"{words}: no end in {IN_TIME} s") from late
+        told = f"{words}: {ended.returncode}, {len(ended.stdout)} bytes, {ended.stderr[:200]!r}"
+        if ended.returncode == 0:
+            if ended.stderr:
+                raise Wrong(told)
+        elif ended.stdout or not re.fullmatch(LINES.get(ended.returncode, "").encode() + b"\n", ended.stderr):
+            raise Wrong(told)
+        after = self.files()
+        if words[:1] == ("record",) and ended.returncode == 0:
+            before.pop(words[3], None)
+            after.pop(words[3])
+        if after != before:
+            raise Wrong(f"{words}: other files")
+        return ended.returncode, ended.stdout + ended.stderr
+
+    def twice(self, *words):
+        """The same call twice answers the same."""
+        first, second = self.call(*words), self.call(*words)
+        if first != second:
+            raise Wrong(f"{words}: {first[1][:80]!r}, and then {second[1][:80]!r}")
+        return first
+
+
+def seeds():
+    """Images with a plan each, as bytes."""
+    found = []
+    for image in sorted(glob.glob(os.path.join(top, "tests", "cases", "*.tmi")) + glob.glob(os.path.join(top, "examples", "*.tmi"))):
+        found.append((read(image), read(image.replace(".tmi", ".tmplan"))))
+    cell = os.path.join(top, "examples", "cell", "cell")
+    return found + [(read(cell + ".tmi"), read(cell + ".tmplan"))]
+
+
+def changed_token(chance, line):
+    tokens = line.split(b" ")
+    place = chance.randrange(len(tokens))
+    if re.fullmatch(rb"[0-9a-f]{8}", tokens[place]) and chance.random() < 0.7:
+        tokens[place] = b"%08x" % (int(tokens[place], 16) ^ 1 << chance.randrange(32))
+    else:
+        tokens[place] = chance.choice(NUMBERS).encode()
+    return b" ".join(tokens)
+
+
+def changed_text(chance, text, other):
+    """A text with one thing changed in it: a token, a line, some bytes, or a part of another."""
+    lines = text.split(b"\n")
+    place = chance.randrange(len(lines))
+    match chance.randrange(8):
+        case 0 | 1 | 2:
+            lines[place] = changed_token(chance, lines[place])
+        case 3:
+            lines.insert(chance.randrange(len(lines)), lines[place])
+        case 4:
+            del lines[place]
+        case 5:
+            lines.insert(place, chance.choice(other.split(b"\n")))
+        case 6:
+            lines[place] = lines[place][: chance.randrange(len(lines[place]) + 1)]
+        case _:
+            return changed_bytes(chance, text)
+    return b"\n".join(lines)
+
+
+def changed_bytes(chance, content):
+    """Bytes with a few of them replaced, cut out or put in."""
+    content = bytearray(content)
+    for _ in range(chance.randrange(1, 4)):
+        place = chance.randrange(len(content) + 1)
+        content[place : place + chance.randrange(3)] = chance.randbytes(chance.randrange(3))
+    return bytes(content)
+
+
+def is_short(plan):
+    """The instructions of a plan are few, as far as it can be read."""
+    lengths = re.findall(rb"^\s*slice\s+(\w+)", plan, re.M)
+    return all(len(length) < 12 for length in lengths) and sum(int(length, 0) for length in lengths if re.fullmatch(rb"\d+|0x[0-9a-fA-F]+", length) and not re.fullmatch(rb"0\d+", length)) < MOST_INSTRUCTIONS
+
+
+def play_texts(case, pairs):
+    """A changed image, a changed plan, or both; what is accepted is recorded, listed and replayed."""
+    (image, plan), (other_image, other_plan) = case.chance.choice(pairs), case.chance.choice(pairs)
+    for _ in range(case.chance.randrange(4)):
+        image = changed_text(case.chance, image, other_image)
+    for _ in range(case.chance.randrange(3)):
+        plan = changed_text(case.chance, plan, other_plan)
+    if not is_short(plan):
+        return
+    write(os.path.join(case.folder, "image"), image)
+    write(os.path.join(case.folder, "plan"), plan)
+    write(os.path.join(case.folder, "dump"), b"old")
+    status, text = case.twice("trace", "image", "plan")
+    recorded = case.call("record", "image", "plan", "dump")
+    if recorded[0] != status or (status and recorded[1] != text):
+        raise Wrong(f"trace {status}, record {recorded}")
+    if status == 0:
+        play_run(case, image, text)
+
+
+def play_run(case, image, text):
+    """The points are those that the dump has all of, and the text from each is the end of the trace."""
+    dump = read(os.path.join(case.folder, "dump"))
+    words, caps = shape_of(image)
+    fields = decode(dump, words, caps)
+    points = accepted(fields)
+    if case.twice("points", "image", "dump") != (0, "".join(f"{point}\n" for point in points).encode()):
+        raise Wrong("other points")
+    for point in {*points[:1], *points[-1:], *case.chance.sample(points, min(3, len(points)))}:
+        workers = f"--workers={case.chance.randrange(1, 17)}"
+        if case.call("replay", "image", "dump", "--from", str(point), workers) != (0, text_from(text, words, point)):
+            raise Wrong(f"another text from {point}")
+    play_dump(case, dump, fields.control.total)
+
+
+def play_dump(case, dump, total):
+    """A changed dump is refused, and one that is sealed anew is refused, diverges, or is a text; always the same."""
+    for sealing in (False, True):
+        other = changed_bytes(case.chance, dump[:-32] if sealing else dump)
+        if other in (dump, dump[:-32]):
+            continue
+        write(os.path.join(case.folder, "changed"), sealed(other) if sealing else other)
+        listed = case.twice("points", "image", "changed")
+        told = case.twice("replay", "image", "changed", "--from", str(case.chance.randrange(total + 2)))
+        if not sealing and (listed[0], told[0]) != (6, 6):
+            raise Wrong(f"a changed dump: {listed}, {told}")
+        if listed[0] == 6 and told != listed:
+            raise Wrong(f"points {listed}, replay {told}")
+
+
+def play_words(case, pairs):
+    """Words in any order, some of them names of files that are there."""
+    image, plan = case.chance.choice(pairs)
+    for name, content in (("image", image), ("plan", plan), ("dump", b"old")):
+        write(os.path.join(case.folder, name), content)
+    words = [case.chance.choice([*WORDS, *NUMBERS, "image", "plan", "dump", "missing", ""]) for _ in range(case.chance.randrange(7))]
+    if words[:1] not in (["record"], ["make"]):
+        case.twice(*words)
+
+
+def play(seed, number, pairs):
+    """One round; what was wrong in it, or nothing."""
+    with tempfile.TemporaryDirectory() as folder:
+        case = Case(seed, number, folder)
+        try:
+            (play_words if case.chance.random() < 0.2 else play_texts)(case, pairs)
+        except Wrong as wrong:
+            return [f"seed {seed}, round {number}: {wrong}"]
+    return []
+
+
+def storm(seed, minutes):
+    """Rounds for so many minutes: how many, and what was wrong in them."""
+    pairs, wrong, number, begin = seeds(), [], 0, time.monotonic()
+    while time.monotonic() - begin < 60 * minutes:
+        wrong += play(seed, number, pairs)
+        number += 1
+    return number, wrong
+
+
+def main():
+    seed, much = sys.argv[1:]
+    if much.startswith("r"):
+        rounds, wrong = 1, play(seed, int(much[1:]), seeds())
+    else:
+        rounds, wrong = storm(seed, float(much))
+    print("\n".join([*wrong, f"{rounds} rounds, {len(wrong)} wrong"]))
+    sys.exit(1 if wrong else 0)
+
+
+if __name__ == "__main__":
+    main()

@@ -4,7 +4,7 @@ import tempfile
 
 from dumps import recorded
 from finder import accepted
-from hostile import refused_dumps
+from changed_dumps import refused_dumps
 from shared import check, make_files, read, top, write
 
 

@@ -10,7 +10,7 @@ import tempfile
 
 from dumps import recorded, shape_of
 from finder import accepted, lost, text_from
-from hostile import changed, diverging_dumps, refused_dumps
+from changed_dumps import changed, diverging_dumps, refused_dumps
 from shared import check, equal, expect, make_files, program, read, run, top, write
 
 JUMP = """tmi 1
