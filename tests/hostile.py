@@ -1,8 +1,8 @@
 #!/usr/bin/env python3
-"""Images, plans, dumps and words that nobody would write, given to the built program over real files. No model says what
-is to come; what holds of every call is checked: it ends in time with a status and a line of docs/messages.md, prints
-nothing beside a line, changes no file but the dump that it puts, and does the same again. A run that is accepted is
-recorded, listed, and replayed from its points to the end of its own trace; a dump with any byte changed is refused.
+"""Images, plans, dumps and words that nobody would write, given to the built program over real files. No model says
+what is to come; what holds of every call is checked: it ends in time with a status and a line of docs/messages.md,
+prints nothing beside a line, changes no file but the dump that it puts, and does the same again. A run that is accepted
+is recorded, listed, and replayed from its points to the end of its own trace; a dump with any byte changed is refused.
 
 Usage: hostile.py SEED MINUTES, by hand; or hostile.py SEED ROUND, with a round of the form rN, for one round again.
 A failure names its seed and round."""
@@ -34,8 +34,12 @@ LINES = {
     8: rf"tm: diverged at \d+ task \d+ reached {MARKER} wanted {MARKER} "
     r"(passed|moved|faulted|no fault|no entry|other service|left|other output)",
 }
-NUMBERS = "0 1 2 3 4 5 7 8 15 16 17 63 64 65 255 256 4095 16384 16385 65535 65536 65537 4294967295 4294967296 0x0 0xffff -1".split()
-WORDS = "trace record points replay make live --from --from= --workers --workers= --help --version -- - = --= 0 1 16 17".split()
+NUMBERS = (
+    "0 1 2 3 4 5 7 8 15 16 17 63 64 65 255 256 4095 16384 16385 65535 65536 65537 4294967295 4294967296 0x0 0xffff -1"
+).split()
+WORDS = (
+    "trace record points replay make --from --from= --from=0 --workers --workers= --workers=2 --help --version -- - ="
+).split()
 MOST_INSTRUCTIONS, IN_TIME = 200_000, 120
 
 
@@ -85,7 +89,7 @@ class Case:
 def seeds():
     """Images with a plan each, as bytes."""
     found = []
-    for image in sorted(glob.glob(os.path.join(top, "tests", "cases", "*.tmi")) + glob.glob(os.path.join(top, "examples", "*.tmi"))):
+    for image in sorted(glob.glob(f"{top}/tests/cases/*.tmi") + glob.glob(f"{top}/examples/*.tmi")):
         found.append((read(image), read(image.replace(".tmi", ".tmplan"))))
     cell = os.path.join(top, "examples", "cell", "cell")
     return found + [(read(cell + ".tmi"), read(cell + ".tmplan"))]
@@ -132,8 +136,8 @@ def changed_bytes(chance, content):
 
 def is_short(plan):
     """The instructions of a plan are few, as far as it can be read."""
-    lengths = re.findall(rb"^\s*slice\s+(\w+)", plan, re.M)
-    return all(len(length) < 12 for length in lengths) and sum(int(length, 0) for length in lengths if re.fullmatch(rb"\d+|0x[0-9a-fA-F]+", length) and not re.fullmatch(rb"0\d+", length)) < MOST_INSTRUCTIONS
+    lengths = re.findall(rb"\bslice\s+(?:0x([0-9a-fA-F]{1,8})|(\d{1,10}))", plan)
+    return sum(int(digits, 16) if digits else int(others) for digits, others in lengths) < MOST_INSTRUCTIONS
 
 
 def play_texts(case, pairs):
@@ -191,7 +195,8 @@ def play_words(case, pairs):
     image, plan = case.chance.choice(pairs)
     for name, content in (("image", image), ("plan", plan), ("dump", b"old")):
         write(os.path.join(case.folder, name), content)
-    words = [case.chance.choice([*WORDS, *NUMBERS, "image", "plan", "dump", "missing", ""]) for _ in range(case.chance.randrange(7))]
+    choices = [*WORDS, *NUMBERS, "image", "plan", "dump", "missing", ""]
+    words = [case.chance.choice(choices) for _ in range(case.chance.randrange(7))]
     if words[:1] not in (["record"], ["make"]):
         case.twice(*words)
 

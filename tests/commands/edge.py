@@ -70,7 +70,7 @@ def check_outputs(folder, words):
 
 
 def check_closed(folder, dump):
-    """With no standard files at all, what is opened gets their numbers: the dump is put whole, and no line gets into it."""
+    """Without standard files, what is opened gets their numbers: the dump is put whole, and no line gets into it."""
     for what, closed in (("all", (0, 1, 2)), ("input", (0,)), ("output", (1,)), ("errors", (2,))):
         name = os.path.join(folder, f"{what}.dump")
 
@@ -79,7 +79,8 @@ def check_closed(folder, dump):
                 os.close(number)
 
         for plan, status in ((PLAN, 0), (PLAN + ".missing", 3)):
-            call = subprocess.run([program, "record", IMAGE, plan, name], stderr=subprocess.PIPE, timeout=120, preexec_fn=close)
+            words = [program, "record", IMAGE, plan, name]
+            call = subprocess.run(words, stderr=subprocess.PIPE, timeout=120, preexec_fn=close)
             told = b"" if status == 0 or 2 in closed else READ_FAULT[1]
             equal(f"record without {what}", (call.returncode, call.stderr), (status, told))
             equal(f"record without {what}: dump", read(name), read(dump))
@@ -91,12 +92,15 @@ def check_files(folder, dump):
     os.mkfifo(fifo)
     write(closed, b"tmi 1\n")
     os.chmod(closed, 0)
-    bad = [folder, os.path.join(folder, "missing", "file"), os.path.join(IMAGE, "below"), "n" * 255, "n" * 256, "n" * 4096, "/" + "d/" * 2100]
+    bad = [folder, f"{folder}/missing/file", f"{IMAGE}/below", "n" * 255, "n" * 256, "n" * 4096, "/" + "d/" * 2100]
     user = {"user": NOBODY} if os.geteuid() == 0 else {}
-    for words in (["trace", IMAGE, PLAN], ["record", IMAGE, PLAN, os.path.join(folder, "no.dump")], ["points", IMAGE, dump], ["replay", IMAGE, dump, "--from", "0"]):
+    calls = [["trace", IMAGE, PLAN], ["record", IMAGE, PLAN, os.path.join(folder, "no.dump")]]
+    calls += [["points", IMAGE, dump], ["replay", IMAGE, dump, "--from", "0"]]
+    for words in calls:
         for place in (1, 2):
             for name in bad:
-                check(f"{words[0]}: {name[:20]} as file {place}", words[:place] + [name] + words[place + 1 :], 3, b"", "tm: read fault", folder)
+                other = words[:place] + [name] + words[place + 1 :]
+                check(f"{words[0]}: {name[:20]} as file {place}", other, 3, b"", "tm: read fault", folder)
             check_unreadable(folder, words[:place] + [closed] + words[place + 1 :], user)
             check_fifo(words, place, fifo)
     expect("record: no dump", ["no.dump"] if os.path.exists(os.path.join(folder, "no.dump")) else [])
@@ -109,17 +113,17 @@ def check_unreadable(folder, words, user):
         write(copied, read(program))
         os.chmod(copied, 0o755)
     call = subprocess.run([copied, *words], capture_output=True, timeout=120, **user)
-    equal(f"{words[0]}: a file that may not be read", (call.returncode, call.stdout, call.stderr), (3, b"", READ_FAULT[1]))
+    got = (call.returncode, call.stdout, call.stderr)
+    equal(f"{words[0]}: a file that may not be read", got, (3, b"", READ_FAULT[1]))
 
 
 def check_fifo(words, place, fifo):
     """A FIFO is read to its end, as a file would be."""
-    wanted = subprocess.run([program, *words], capture_output=True, timeout=120)
+    text = subprocess.run([program, *words], stdout=subprocess.PIPE, timeout=120, check=True).stdout
     writer = threading.Thread(target=write, args=(fifo, read(words[place])))
     writer.start()
-    got = subprocess.run([program, *words[:place], fifo, *words[place + 1 :]], capture_output=True, timeout=120)
+    check(f"{words[0]}: a FIFO as file {place}", [*words[:place], fifo, *words[place + 1 :]], 0, text, "")
     writer.join(20)
-    equal(f"{words[0]}: a FIFO as file {place}", (got.returncode, got.stdout, got.stderr), (wanted.returncode, wanted.stdout, wanted.stderr))
     if words[0] == "record" and os.path.exists(words[3]):
         os.remove(words[3])
 
@@ -127,7 +131,7 @@ def check_fifo(words, place, fifo):
 def check_names(folder, dump):
     """Names under which nothing can be put, and odd ones under which it can."""
     before = sorted(os.listdir(folder))
-    for name in (".", "..", folder + "/", os.path.join(folder, "new", ""), os.path.join(IMAGE, "below"), "n" * 4096, "d/" * 2047 + "d"):
+    for name in (".", "..", f"{folder}/", f"{folder}/new/", f"{IMAGE}/below", "n" * 4096, "d/" * 2047 + "d"):
         check(f"record as {name[:20]}", ["record", IMAGE, PLAN, name], 9, b"", "tm: write fault", folder)
     equal("record: files", sorted(os.listdir(folder)), before)
     for name in ("two\nlines", "a word", "\u00e9\U0001f600", "x=--from"):

@@ -25,9 +25,9 @@ def lines_of(path):
 
 
 def sessions(lines):
-    """The commands of a page, each with the lines that it prints. A command goes on behind `> `, and its lines end where
-    the block does. Where the first column of a table is `Line`, the pieces of code in it are the lines that the command
-    before it prints."""
+    """The commands of a page, each with the lines that it prints. A command goes on behind `> `, and its lines end
+    where the block does. Where the first column of a table is `Line`, the pieces of code in it are the lines that the
+    command before it prints."""
     found, inside, told = [], False, False
     for line in lines:
         text = line[len(BLOCK) :]
@@ -88,10 +88,11 @@ def check_clauses():
     """Each clause that docs/promises.md names as `CALL`: `CLAUSE` stands at a function of that name."""
     source = {}
     for path in glob.glob(os.path.join(top, "crates", "*", "src", "**", "*.rt"), recursive=True):
-        for name, body in re.findall(r"\bfn (\w+)\b(.*?)(?=\n *(?:pub |const |unsafe )*fn |\Z)", read(path).decode(), re.S):
+        text = read(path).decode()
+        for name, body in re.findall(r"\bfn (\w+)\b(.*?)(?=\n *(?:pub |const |unsafe )*fn |\Z)", text, re.S):
             source.setdefault(name, []).append(body)
-    missing = []
-    for call, clauses in re.findall(r"`([\w:]+)`: ((?:`\w+`(?:, )?)+)", read(os.path.join(top, "docs", "promises.md")).decode()):
+    missing, promises = [], "\n".join(lines_of(os.path.join(top, "docs", "promises.md")))
+    for call, clauses in re.findall(r"`([\w:]+)`: ((?:`\w+`(?:, )?)+)", promises):
         bodies = source.get(call.split("::")[-1], [])
         for clause in re.findall(r"`(\w+)`", clauses):
             if not any(re.search(rf"\bensures {clause} ?{{", body) for body in bodies):

@@ -3,15 +3,13 @@ left, and the calls that are refused."""
 import os
 import random
 import re
-import resource
-import signal
-import subprocess
 import tempfile
 
-from dumps import recorded, shape_of
-from finder import accepted, lost, text_from
 from changed_dumps import changed, diverging_dumps, refused_dumps
-from shared import check, equal, expect, make_files, program, read, run, top, write
+from dumps import recorded, shape_of
+from finder import lost, text_from
+from hostile import LINES
+from shared import check, expect, make_files, read, run, top, write
 
 JUMP = """tmi 1
 task 0 basic 1 auto 0 1
@@ -29,12 +27,6 @@ line 1 activate 1
 """
 ONE_TASK = "tmi 1\ntask 0 basic 1 auto 0 1\n"
 READS = ONE_TASK + "text 0 01200893 00000073 00000073 00000073 0000006f\n"
-LINES = (
-    r"tm: dump (magic|digest|other image|(version|field|extra) \d+)",
-    r"tm: point (unknown \d+|control \d+|check \d+ \d+|data \d+ \d+ \d+)",
-    r"tm: diverged at \d+ task \d+ reached \d+\.\d+\.[0-9a-f]{8} wanted \d+\.\d+\.[0-9a-f]{8} "
-    r"(passed|moved|faulted|no fault|no entry|other service|left|other output)",
-)
 
 
 def record(folder, name, image, *slices):
@@ -125,7 +117,7 @@ def check_mutated(folder):
                 wrong.append(f"place {place}: {ended.stderr!r}")
         write(os.path.join(folder, "changed.dump"), changed(dump, (place, dump[place] ^ byte)))
         ended = run(words, folder)
-        told = [status for status, line in zip((6, 7, 8), LINES) if re.fullmatch(line.encode() + b"\n", ended.stderr)]
+        told = [status for status in (6, 7, 8) if re.fullmatch(LINES[status].encode() + b"\n", ended.stderr)]
         if [ended.returncode] != (told or [0]) or bool(ended.stdout) == bool(told) or (not told and ended.stderr):
             wrong.append(f"place {place}, sealed: {ended.returncode}, {ended.stderr!r}")
     expect("mutated dumps", wrong)
@@ -195,28 +187,6 @@ def check_files(folder):
         check(f"replay: {what}", ["replay", *names, "--from", "99"], status, b"", err, folder)
 
 
-def limited():
-    """A file may grow to 100 bytes."""
-    signal.signal(signal.SIGXFSZ, signal.SIG_IGN)
-    resource.setrlimit(resource.RLIMIT_FSIZE, (100, 100))
-
-
-def check_writes(folder):
-    """An output that is closed, one that is full, and one that fails in the midst of the text, of which it has the
-    beginning."""
-    words = [program, "replay", "good.tmi", "good.dump", "--from", "0"]
-    text = subprocess.run(words, cwd=folder, capture_output=True, check=True).stdout
-    with open("/dev/full", "wb") as full, open(os.path.join(folder, "output"), "wb") as output:
-        for what, options in (
-            ("a closed output", {"preexec_fn": lambda: os.close(1)}),
-            ("a full output", {"stdout": full}),
-            ("an output that fails in the midst", {"stdout": output, "preexec_fn": limited}),
-        ):
-            ended = subprocess.run(words, cwd=folder, stderr=subprocess.PIPE, timeout=120, **options)
-            equal(what, (ended.returncode, ended.stderr), (9, b"tm: write fault\n"))
-    equal("an output that fails in the midst: its bytes", read(os.path.join(folder, "output")), text[:100])
-
-
 def main():
     with tempfile.TemporaryDirectory() as shelf:
         check_runs(shelf)
@@ -229,4 +199,3 @@ def main():
         check_mutated(folder)
         check_words(folder)
         check_files(folder)
-        check_writes(folder)
