@@ -2,9 +2,9 @@
 import os
 import tempfile
 
+from changed_dumps import refused_dumps
 from dumps import recorded
 from finder import accepted
-from changed_dumps import refused_dumps
 from shared import check, make_files, read, top, write
 
 
