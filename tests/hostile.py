@@ -10,6 +10,7 @@ import glob
 import os
 import random
 import re
+import struct
 import subprocess
 import sys
 import tempfile
@@ -134,10 +135,18 @@ def changed_bytes(chance, content):
     return bytes(content)
 
 
+def changed_bits(chance, content):
+    """Bytes of the same length with a few bits turned, behind the head of a dump."""
+    content = bytearray(content)
+    for _ in range(chance.randrange(1, 4)):
+        content[chance.randrange(37, len(content))] ^= 1 << chance.randrange(8)
+    return bytes(content)
+
+
 def is_short(plan):
     """The instructions of a plan are few, as far as it can be read."""
     lengths = re.findall(rb"\bslice\s+(?:0x([0-9a-fA-F]{1,8})|(\d{1,10}))", plan)
-    return sum(int(digits, 16) if digits else int(others) for digits, others in lengths) < MOST_INSTRUCTIONS
+    return sum(int(high or b"0", 16) + int(low or b"0") for high, low in lengths) < MOST_INSTRUCTIONS
 
 
 def play_texts(case, pairs):
@@ -177,8 +186,8 @@ def play_run(case, image, text):
 
 def play_dump(case, dump, total):
     """A changed dump is refused, and one that is sealed anew is refused, diverges, or is a text; always the same."""
-    for sealing in (False, True):
-        other = changed_bytes(case.chance, dump[:-32] if sealing else dump)
+    for sealing, change in ((False, changed_bytes), (True, changed_bytes), (True, changed_bits), (True, changed_bits)):
+        other = change(case.chance, dump[:-32] if sealing else dump)
         if other in (dump, dump[:-32]):
             continue
         write(os.path.join(case.folder, "changed"), sealed(other) if sealing else other)
@@ -207,8 +216,8 @@ def play(seed, number, pairs):
         case = Case(seed, number, folder)
         try:
             (play_words if case.chance.random() < 0.2 else play_texts)(case, pairs)
-        except Wrong as wrong:
-            return [f"seed {seed}, round {number}: {wrong}"]
+        except (Wrong, OSError, struct.error, LookupError, ValueError) as wrong:
+            return [f"seed {seed}, round {number}: {wrong!r}"]
     return []
 
 
