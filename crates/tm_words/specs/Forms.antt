@@ -9,6 +9,8 @@ use Rattle.tm_words.specs.Command.{asked}
 abbrev pub asked_by : Form → Option Command
 asked_by (form.Trace image plan) = asked kind.Trace (image.now ∷ plan.now ∷ []) []
 asked_by (form.Record image plan dump) = asked kind.Record (image.now ∷ plan.now ∷ dump.now ∷ []) []
+asked_by (form.Live image plant dump slices len tape) =
+    asked kind.Live (image.now ∷ plant.now ∷ dump.now ∷ []) (Some slices.now ∷ Some len.now ∷ tape ∷ [])
 asked_by (form.Points image dump) = asked kind.Points (image.now ∷ dump.now ∷ []) []
 asked_by (form.Replay image dump from workers) = asked kind.Replay (image.now ∷ dump.now ∷ []) (Some from.now ∷ Some workers.now ∷ [])
 asked_by (form.Make number) = asked kind.Make (number.now ∷ []) []

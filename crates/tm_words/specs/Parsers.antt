@@ -1,6 +1,9 @@
 -- The parsers that read the texts of each form, and the words that they are handed: options with their values
 -- behind `=`, then `--`, then the names.
-use Rattle.std.specs.Prelude.{ℕ, List, [], ◌∷◌, ◌++◌, codes, Some}
+use Rattle.std.specs.Prelude.{ℕ, List, [], ◌∷◌, ◌++◌, codes, Option, Some, None, unwrap_or}
+use Rattle.tm_words.specs.declared.kind.Kind.TheVariants as kind
+use Rattle.tm_words.specs.declared.command.Command.{Command}
+use Rattle.tm_words.specs.Command.{asked}
 use Rattle.clap.specs.Words.{App, Rule, new_app, new_rule, with_rule}
 
 -- an option that takes a text
@@ -18,6 +21,26 @@ record_parser = with_rule (with_rule (with_rule (new_app (codes "record")) (new_
 
 abbrev pub record_words : List ℕ → List ℕ → List ℕ → List (List ℕ)
 record_words image plan dump = codes "record" ∷ codes "--" ∷ image ∷ plan ∷ dump ∷ []
+
+abbrev pub live_parser : App
+live_parser =
+    with_rule (with_rule (with_rule (with_rule (with_rule (with_rule (new_app (codes "live")) (option_rule (codes "slices"))) (option_rule (codes "len")))
+    (option_rule (codes "tape"))) (new_rule (codes "image"))) (new_rule (codes "plant"))) (new_rule (codes "dump"))
+
+-- the option of a tape, where it has a name
+abbrev pub tape_words : Option (List ℕ) → List (List ℕ) → List (List ℕ)
+tape_words None words = words
+tape_words (Some tape) words = (codes "--tape=" ++ tape) ∷ words
+
+abbrev pub live_words : List ℕ → List ℕ → List ℕ → List ℕ → List ℕ → Option (List ℕ) → List (List ℕ)
+live_words image plant dump slices len tape =
+    codes "live" ∷ (codes "--slices=" ++ slices) ∷ (codes "--len=" ++ len) ∷ tape_words tape (codes "--" ∷ image ∷ plant ∷ dump ∷ [])
+
+-- what the texts that the parser tells ask for
+abbrev pub live_told : (List ℕ → Option (List ℕ)) → Option Command
+live_told told =
+    asked kind.Live (unwrap_or (told (codes "image")) [] ∷ unwrap_or (told (codes "plant")) [] ∷ unwrap_or (told (codes "dump")) [] ∷ [])
+    (told (codes "slices") ∷ told (codes "len") ∷ told (codes "tape") ∷ [])
 
 abbrev pub points_parser : App
 points_parser = with_rule (with_rule (new_app (codes "points")) (new_rule (codes "image"))) (new_rule (codes "dump"))

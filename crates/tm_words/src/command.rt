@@ -16,6 +16,16 @@ pub enum Command {
         plan: Name,
         dump: Name,
     },
+    /// A run of 0 to 1,048,576 slices, each of 0 to 1,048,576 instructions, beside the devices of a plant: the dump of
+    /// its window and, where a name is given for it, the tape of its slices are put, under two names.
+    Live {
+        image: Name,
+        plant: Name,
+        dump: Name,
+        slices: u32,
+        len: u32,
+        tape: Option<Name>,
+    },
     /// The points from which a dump of an image can be replayed.
     Points {
         image: Name,

@@ -1,13 +1,14 @@
 //! The forms of a call, by the texts that it gives.
 
-ghost use Rattle.std.specs.Prelude.{◌≡◌, [], IfSome, IsSome, option_and_then};
+ghost use Rattle.std.specs.Prelude.{◌≡◌, [], ◌∷◌, Some, IfSome, IsSome, option_and_then};
 ghost use Rattle.tm_words.specs.declared.kind.Kind.TheVariants as kind;
-ghost use Rattle.tm_words.specs.Command.{form_of, options_of};
+ghost use Rattle.tm_words.specs.Command.{asked, form_of, is_named, options_of};
 ghost use Rattle.tm_words.specs.Forms.{asked_by};
 
 use crate::kind::Kind;
-use crate::numbers::{point_in, seed_in, workers_in};
+use crate::numbers::{count_in, point_in, seed_in, workers_in};
 use crate::parts::Parts;
+use crate::text::Text;
 
 /// The texts of a call that is of a form.
 #[derive(Drop)]
@@ -20,6 +21,14 @@ pub(crate) enum Form<'a> {
         image: &'a str,
         plan: &'a str,
         dump: &'a str,
+    },
+    Live {
+        image: &'a str,
+        plant: &'a str,
+        dump: &'a str,
+        slices: &'a str,
+        len: &'a str,
+        tape: Option<Text<'a>>,
     },
     Points {
         image: &'a str,
@@ -42,6 +51,7 @@ pub(crate) fn form_of(kind: Kind, parts: Parts<'_>) -> Option<Form<'_>>
     ensures sure { IfSome result (λ form. IsSome (asked_by form)) }
 {
     match kind {
+        Kind::Live => live_form(parts),
         Kind::Replay => replay_form(parts),
         _ => plain_form(kind, &parts),
     }
@@ -74,6 +84,56 @@ fn plain_form<'a>(kind: Kind, parts: &Parts<'a>) -> Option<Form<'a>>
             number: number.get(),
         }),
         _ => None,
+    }
+}
+
+/// `live IMAGE PLANT DUMP --slices N --len L [--tape NAME]`
+fn live_form(mut parts: Parts<'_>) -> Option<Form<'_>>
+    ensures same { option_and_then asked_by result ≡ form_of kind.Live parts.entry }
+    ensures sure { IfSome result (λ form. IsSome (asked_by form)) }
+{
+    let slices = parts.take("--slices")?;
+    let len = parts.take("--len")?;
+    let tape = parts.take("--tape");
+    if !parts.has_no_options() {
+        return None;
+    }
+    named_live_form(parts.names(), slices.get(), len.get(), tape)
+}
+
+/// The same, by its names and the values of its options.
+fn named_live_form<'a>(
+    names: &[Text<'a>],
+    slices: &'a str,
+    len: &'a str,
+    tape: Option<Text<'a>>,
+) -> Option<Form<'a>>
+    ensures same { option_and_then asked_by result ≡ asked kind.Live names.now (Some slices.now ∷ Some len.now ∷ tape ∷ []) }
+    ensures sure { IfSome result (λ form. IsSome (asked_by form)) }
+{
+    match names {
+        [image, plant, dump]
+            if count_in(slices).is_some() && count_in(len).is_some() && !is_named(dump, &tape) => {
+            Some(Form::Live {
+                image: image.get(),
+                plant: plant.get(),
+                dump: dump.get(),
+                slices,
+                len,
+                tape,
+            })
+        }
+        _ => None,
+    }
+}
+
+/// Whether a tape would be put under the name of the dump.
+fn is_named(dump: &Text<'_>, tape: &Option<Text<'_>>) -> bool
+    ensures { result ≡ is_named dump.now tape.now }
+{
+    match tape {
+        Some(tape) => tape.get() == dump.get(),
+        None => false,
     }
 }
 

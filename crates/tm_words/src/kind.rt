@@ -8,14 +8,16 @@ ghost use Rattle.tm_words.specs.Command.{first_word, kind_of};
 pub(crate) enum Kind {
     Trace,
     Record,
+    Live,
     Points,
     Replay,
     Make,
 }
 
-const KINDS: [Kind; 5] = [
+const KINDS: [Kind; 6] = [
     Kind::Trace,
     Kind::Record,
+    Kind::Live,
     Kind::Points,
     Kind::Replay,
     Kind::Make,
@@ -28,6 +30,7 @@ impl Kind {
         match self {
             Kind::Trace => "trace",
             Kind::Record => "record",
+            Kind::Live => "live",
             Kind::Points => "points",
             Kind::Replay => "replay",
             Kind::Make => "make",

@@ -5,6 +5,7 @@
 //! ```text
 //! trace IMAGE PLAN
 //! record IMAGE PLAN DUMP
+//! live IMAGE PLANT DUMP --slices N --len L [--tape NAME]
 //! points IMAGE DUMP
 //! replay IMAGE DUMP --from P [--workers W]
 //! make N
@@ -12,7 +13,8 @@
 //!
 //! The options of a command stand anywhere behind the first word, as `--from P` or `--from=P`, each once at most.
 //! A name and a value aren't empty and don't begin with a dash. A number is 1 to 20 decimal digits: P is 0 to
-//! 2^64 - 1, W is 1 to 16 and is 1 where it isn't given, N is 0 to 2^32 - 1. All other words are of no form.
+//! 2^64 - 1, W is 1 to 16 and is 1 where it isn't given, L is 0 to 1,048,576, N is 0 to 1,048,576 too, but 0 to
+//! 2^32 - 1 for `make`. The name of a tape is another than that of the dump. All other words are of no form.
 //!
 //! The words are scanned first, which takes no memory. What is of a form is then read by one parser of `clap` for
 //! each command, in an order in which the parser can fail for want of memory alone.

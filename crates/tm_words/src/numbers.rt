@@ -21,6 +21,16 @@ pub(crate) fn workers_in(text: &str) -> Option<u8>
     }
 }
 
+/// The slices of a run beside devices, or the instructions of each: 0 to 1,048,576.
+pub(crate) fn count_in(text: &str) -> Option<u32>
+    ensures { result ≡ number_in 0 1048576 text.now }
+{
+    match number_in(0, 1_048_576, text) {
+        Some(number) => Some(number as u32),
+        None => None,
+    }
+}
+
 /// The number of a generated run: 0 to 2^32 - 1.
 pub(crate) fn seed_in(text: &str) -> Option<u32>
     ensures { result ≡ number_in 0 (2 ^ 32 - 1) text.now }

@@ -2,7 +2,7 @@
 
 ghost use Rattle.std.specs.Prelude.{◌≡◌, IfOk, false};
 ghost use Rattle.clap.specs.Words.{app_of, rule_of, new_rule};
-ghost use Rattle.tm_words.specs.Parsers.{option_rule, trace_parser, record_parser, points_parser, replay_parser, make_parser};
+ghost use Rattle.tm_words.specs.Parsers.{option_rule, trace_parser, record_parser, live_parser, points_parser, replay_parser, make_parser};
 
 use clap::{Arg, Command};
 use std::alloc::{AllocError, Global};
@@ -37,6 +37,18 @@ pub(crate) fn record_parser<'a>(alloc: Global) -> Result<Command<'a>, AllocError
     Command::new(alloc, "record")
         .arg(text(alloc, "image"))?
         .arg(text(alloc, "plan"))?
+        .arg(text(alloc, "dump"))
+}
+
+pub(crate) fn live_parser<'a>(alloc: Global) -> Result<Command<'a>, AllocError>
+    ensures { IfOk result (λ parser. app_of parser ≡ live_parser) }
+{
+    Command::new(alloc, "live")
+        .arg(option(alloc, "slices"))?
+        .arg(option(alloc, "len"))?
+        .arg(option(alloc, "tape"))?
+        .arg(text(alloc, "image"))?
+        .arg(text(alloc, "plant"))?
         .arg(text(alloc, "dump"))
 }
 

@@ -1,18 +1,21 @@
 //! The texts of a form, read by `clap` in the order that each parser takes: the options with their values,
 //! then `--`, then the names. So a parse fails for want of memory alone.
 
-ghost use Rattle.std.specs.Prelude.{◌≡◌, ℕ, List, [], ◌∷◌, ◌++◌, Some, IfOk, IsSome, codes, drop, map, true};
+ghost use Rattle.std.specs.Prelude.{◌≡◌, ℕ, List, [], ◌∷◌, ◌++◌, Some, None, IfOk, IsSome, codes, drop, map, true};
 ghost use Rattle.clap.specs.Words.{app_of, is_simple, takes, matches_of, first_of, found_of, first_value, kind_of};
 ghost use Rattle.clap.specs.declared.error.kind.ErrorKind.TheVariants.{OutOfMemory};
 ghost use Rattle.tm_words.specs.declared.kind.Kind.TheVariants as kind;
-ghost use Rattle.tm_words.specs.Command.{asked};
+ghost use Rattle.tm_words.specs.Command.{asked, is_named};
 ghost use Rattle.tm_words.specs.Forms.{asked_by};
+ghost use Rattle.tm_words.specs.Parsers.{live_parser, live_told};
 
 use crate::command::Command;
 use crate::form::Form;
-use crate::numbers::{point_in, seed_in, workers_in};
-use crate::parsers::{make_parser, points_parser, record_parser, replay_parser, trace_parser};
-use crate::text::Name;
+use crate::numbers::{count_in, point_in, seed_in, workers_in};
+use crate::parsers::{
+    live_parser, make_parser, points_parser, record_parser, replay_parser, trace_parser,
+};
+use crate::text::{Name, Text};
 use clap::{ArgMatches, Command as Parser, Error};
 use std::alloc::{AllocError, Global};
 
@@ -23,6 +26,14 @@ pub(crate) fn read(alloc: Global, form: &Form<'_>) -> Result<Option<Command>, Al
     match form {
         Form::Trace { image, plan } => Ok(Some(read_trace(alloc, image, plan)?)),
         Form::Record { image, plan, dump } => Ok(Some(read_record(alloc, image, plan, dump)?)),
+        Form::Live {
+            image,
+            plant,
+            dump,
+            slices,
+            len,
+            tape,
+        } => read_live(alloc, image, plant, dump, slices, len, tape),
         Form::Points { image, dump } => Ok(Some(read_points(alloc, image, dump)?)),
         Form::Replay {
             image,
@@ -92,6 +103,133 @@ fn read_record(alloc: Global, image: &str, plan: &str, dump: &str) -> Result<Com
     let plan = name_in(alloc, &matches, "plan")?;
     let dump = name_in(alloc, &matches, "dump")?;
     Ok(Command::Record { image, plan, dump })
+}
+
+fn read_live(
+    alloc: Global,
+    image: &str,
+    plant: &str,
+    dump: &str,
+    slices: &str,
+    len: &str,
+    tape: &Option<Text<'_>>,
+) -> Result<Option<Command>, AllocError>
+    ensures { IfOk result (λ command. command ≡ asked kind.Live (image.now ∷ plant.now ∷ dump.now ∷ []) (Some slices.now ∷ Some len.now ∷ tape.now ∷ [])) }
+{
+    let slices = format!(in alloc; "--slices={slices}")?;
+    let len = format!(in alloc; "--len={len}")?;
+    match tape {
+        None => read_untaped(alloc, slices.as_str(), len.as_str(), image, plant, dump),
+        Some(name) => {
+            let name = name.get();
+            let tape = format!(in alloc; "--tape={name}")?;
+            read_taped(
+                alloc,
+                slices.as_str(),
+                len.as_str(),
+                tape.as_str(),
+                image,
+                plant,
+                dump,
+            )
+        }
+    }
+}
+
+/// The same, of `--slices=N` and `--len=L`, without a tape.
+fn read_untaped(
+    alloc: Global,
+    slices: &str,
+    len: &str,
+    image: &str,
+    plant: &str,
+    dump: &str,
+) -> Result<Option<Command>, AllocError>
+    requires slices { slices.now ≡ codes "--slices=" ++ drop 9 slices.now }
+    requires len { len.now ≡ codes "--len=" ++ drop 6 len.now }
+    ensures { IfOk result (λ command. command ≡ asked kind.Live (image.now ∷ plant.now ∷ dump.now ∷ []) (Some (drop 9 slices.now) ∷ Some (drop 6 len.now) ∷ None ∷ [])) }
+{
+    let words = ["live", slices, len, "--", image, plant, dump];
+    read_live_words(alloc, &words)
+}
+
+/// The same, of `--slices=N`, `--len=L` and `--tape=NAME`.
+fn read_taped(
+    alloc: Global,
+    slices: &str,
+    len: &str,
+    tape: &str,
+    image: &str,
+    plant: &str,
+    dump: &str,
+) -> Result<Option<Command>, AllocError>
+    requires slices { slices.now ≡ codes "--slices=" ++ drop 9 slices.now }
+    requires len { len.now ≡ codes "--len=" ++ drop 6 len.now }
+    requires tape { tape.now ≡ codes "--tape=" ++ drop 7 tape.now }
+    ensures { IfOk result (λ command. command ≡ asked kind.Live (image.now ∷ plant.now ∷ dump.now ∷ []) (Some (drop 9 slices.now) ∷ Some (drop 6 len.now) ∷ Some (drop 7 tape.now) ∷ [])) }
+{
+    let words = ["live", slices, len, tape, "--", image, plant, dump];
+    read_live_words(alloc, &words)
+}
+
+/// The same, of words in the order that the parser takes.
+fn read_live_words(alloc: Global, words: &[&str]) -> Result<Option<Command>, AllocError>
+    requires taken { takes live_parser (map (λ word. word.now) words.now) ≡ true }
+    requires image { IsSome (first_of (codes "image") (matches_of live_parser (map (λ word. word.now) words.now))) }
+    requires plant { IsSome (first_of (codes "plant") (matches_of live_parser (map (λ word. word.now) words.now))) }
+    requires dump { IsSome (first_of (codes "dump") (matches_of live_parser (map (λ word. word.now) words.now))) }
+    requires slices { IsSome (first_of (codes "slices") (matches_of live_parser (map (λ word. word.now) words.now))) }
+    requires len { IsSome (first_of (codes "len") (matches_of live_parser (map (λ word. word.now) words.now))) }
+    ensures { IfOk result (λ command. command ≡ live_told (λ name. first_of name (matches_of live_parser (map (λ word. word.now) words.now)))) }
+{
+    let matches = matches_of(live_parser(alloc)?, words)?;
+    let image = name_in(alloc, &matches, "image")?;
+    let plant = name_in(alloc, &matches, "plant")?;
+    let dump = name_in(alloc, &matches, "dump")?;
+    let tape = match matches.get_str("tape") {
+        Some(tape) => Some(Name::new(alloc, tape)?),
+        None => None,
+    };
+    let slices = text_in(&matches, "slices");
+    let len = text_in(&matches, "len");
+    Ok(live_of(image, plant, dump, slices, len, tape))
+}
+
+/// A run beside devices, by the digits of its numbers.
+fn live_of(
+    image: Name,
+    plant: Name,
+    dump: Name,
+    slices: &str,
+    len: &str,
+    tape: Option<Name>,
+) -> Option<Command>
+    ensures { result ≡ asked kind.Live (image ∷ plant ∷ dump ∷ []) (Some slices.now ∷ Some len.now ∷ tape ∷ []) }
+{
+    if is_named(&dump, &tape) {
+        return None;
+    }
+    match (count_in(slices), count_in(len)) {
+        (Some(slices), Some(len)) => Some(Command::Live {
+            image,
+            plant,
+            dump,
+            slices,
+            len,
+            tape,
+        }),
+        _ => None,
+    }
+}
+
+/// Whether a tape would be put under the name of the dump.
+fn is_named(dump: &Name, tape: &Option<Name>) -> bool
+    ensures { result ≡ is_named dump.now tape.now }
+{
+    match tape {
+        Some(tape) => tape.text() == dump.text(),
+        None => false,
+    }
 }
 
 fn read_points(alloc: Global, image: &str, dump: &str) -> Result<Command, AllocError>
