@@ -1,3 +1,4 @@
 pub mod Parsing
 pub mod Refusing
 pub mod Ranges
+pub mod Driving

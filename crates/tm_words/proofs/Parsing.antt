@@ -1,9 +1,9 @@
 -- Each parser takes the words that it is handed, whatever their texts, and gives the texts back.
-use Rattle.std.proofs.Common.{◌≡◌, ◌∙◌, ℕ, true, List, Option, Some, refl, sym, subst, ap}
+use Rattle.std.proofs.Common.{◌≡◌, ◌∙◌, ℕ, true, List, Option, Some, None, refl, sym, subst, ap}
 use Rattle.std.specs.Prelude.{IsSome, codes}
 use Rattle.clap.specs.Words.{App, first_of, matches_of, takes}
 use Rattle.clap.proofs.OnLiterals.{clap_on_literals}
-use Rattle.tm_words.specs.Parsers.{trace_parser, trace_words, record_parser, record_words, points_parser, points_words, replay_parser, replay_words, make_parser, make_words}
+use Rattle.tm_words.specs.Parsers.{trace_parser, trace_words, record_parser, record_words, live_parser, live_words, points_parser, points_words, replay_parser, replay_words, make_parser, make_words}
 
 -- what the parser tells of a text, where it is the parser that was meant
 pub told : {app wanted : App} {value : List ℕ} {found : Option (List ℕ)} (words : List (List ℕ)) (name : List ℕ) → app ≡ wanted →
@@ -43,6 +43,42 @@ record_plan image plan dump = refl
 pub record_dump : (image plan dump : List ℕ) → first_of (codes "dump") (matches_of record_parser (record_words image plan dump)) ≡ Some dump
 unfolding clap_on_literals
 record_dump image plan dump = refl
+
+-- a run beside devices, with a tape and without one
+pub live_taken : (image plant dump slices len : List ℕ) (tape : Option (List ℕ)) → takes live_parser (live_words image plant dump slices len tape) ≡ true
+unfolding clap_on_literals
+live_taken image plant dump slices len None = refl
+live_taken image plant dump slices len (Some tape) = refl
+
+pub live_image : (image plant dump slices len : List ℕ) (tape : Option (List ℕ)) → first_of (codes "image") (matches_of live_parser (live_words image plant dump slices len tape)) ≡ Some image
+unfolding clap_on_literals
+live_image image plant dump slices len None = refl
+live_image image plant dump slices len (Some tape) = refl
+
+pub live_plant : (image plant dump slices len : List ℕ) (tape : Option (List ℕ)) → first_of (codes "plant") (matches_of live_parser (live_words image plant dump slices len tape)) ≡ Some plant
+unfolding clap_on_literals
+live_plant image plant dump slices len None = refl
+live_plant image plant dump slices len (Some tape) = refl
+
+pub live_dump : (image plant dump slices len : List ℕ) (tape : Option (List ℕ)) → first_of (codes "dump") (matches_of live_parser (live_words image plant dump slices len tape)) ≡ Some dump
+unfolding clap_on_literals
+live_dump image plant dump slices len None = refl
+live_dump image plant dump slices len (Some tape) = refl
+
+pub live_slices : (image plant dump slices len : List ℕ) (tape : Option (List ℕ)) → first_of (codes "slices") (matches_of live_parser (live_words image plant dump slices len tape)) ≡ Some slices
+unfolding clap_on_literals
+live_slices image plant dump slices len None = refl
+live_slices image plant dump slices len (Some tape) = refl
+
+pub live_len : (image plant dump slices len : List ℕ) (tape : Option (List ℕ)) → first_of (codes "len") (matches_of live_parser (live_words image plant dump slices len tape)) ≡ Some len
+unfolding clap_on_literals
+live_len image plant dump slices len None = refl
+live_len image plant dump slices len (Some tape) = refl
+
+pub live_tape : (image plant dump slices len : List ℕ) (tape : Option (List ℕ)) → first_of (codes "tape") (matches_of live_parser (live_words image plant dump slices len tape)) ≡ tape
+unfolding clap_on_literals
+live_tape image plant dump slices len None = refl
+live_tape image plant dump slices len (Some tape) = refl
 
 pub points_taken : (image dump : List ℕ) → takes points_parser (points_words image dump) ≡ true
 unfolding clap_on_literals

@@ -39,6 +39,7 @@ many_options (option ∷ options) given many =
 few_options : (k : Kind) → length (options_of k) ≤ 3
 few_options kind.Trace = omega arith
 few_options kind.Record = omega arith
+few_options kind.Live = omega arith
 few_options kind.Points = omega arith
 few_options kind.Replay = omega arith
 few_options kind.Make = omega arith
@@ -50,6 +51,7 @@ many_names k (a ∷ b ∷ []) values many = absurd (omega arith)
 many_names k (a ∷ b ∷ c ∷ []) values many = absurd (omega arith)
 many_names kind.Trace (a ∷ b ∷ c ∷ d ∷ more) values many = refl
 many_names kind.Record (a ∷ b ∷ c ∷ d ∷ more) values many = refl
+many_names kind.Live (a ∷ b ∷ c ∷ d ∷ more) values many = refl
 many_names kind.Points (a ∷ b ∷ c ∷ d ∷ more) values many = refl
 many_names kind.Replay (a ∷ b ∷ c ∷ d ∷ more) values many = refl
 many_names kind.Make (a ∷ b ∷ c ∷ d ∷ more) values many = refl

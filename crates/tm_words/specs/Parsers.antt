@@ -1,10 +1,10 @@
 -- The parsers that read the texts of each form, and the words that they are handed: options with their values
 -- behind `=`, then `--`, then the names.
-use Rattle.std.specs.Prelude.{ℕ, List, [], ◌∷◌, ◌++◌, codes, Option, Some, None, unwrap_or}
+use Rattle.std.specs.Prelude.{◌≡◌, true, ℕ, List, [], ◌∷◌, ◌++◌, codes, Option, Some, None, IsSome, unwrap_or}
 use Rattle.tm_words.specs.declared.kind.Kind.TheVariants as kind
 use Rattle.tm_words.specs.declared.command.Command.{Command}
 use Rattle.tm_words.specs.Command.{asked}
-use Rattle.clap.specs.Words.{App, Rule, new_app, new_rule, with_rule}
+use Rattle.clap.specs.Words.{App, Rule, first_of, matches_of, takes, new_app, new_rule, with_rule}
 
 -- an option that takes a text
 abbrev pub option_rule : List ℕ → Rule
@@ -22,10 +22,11 @@ record_parser = with_rule (with_rule (with_rule (new_app (codes "record")) (new_
 abbrev pub record_words : List ℕ → List ℕ → List ℕ → List (List ℕ)
 record_words image plan dump = codes "record" ∷ codes "--" ∷ image ∷ plan ∷ dump ∷ []
 
+abbrev pub live_options : App
+live_options = with_rule (with_rule (with_rule (new_app (codes "live")) (option_rule (codes "slices"))) (option_rule (codes "len"))) (option_rule (codes "tape"))
+
 abbrev pub live_parser : App
-live_parser =
-    with_rule (with_rule (with_rule (with_rule (with_rule (with_rule (new_app (codes "live")) (option_rule (codes "slices"))) (option_rule (codes "len")))
-    (option_rule (codes "tape"))) (new_rule (codes "image"))) (new_rule (codes "plant"))) (new_rule (codes "dump"))
+live_parser = with_rule (with_rule (with_rule live_options (new_rule (codes "image"))) (new_rule (codes "plant"))) (new_rule (codes "dump"))
 
 -- the option of a tape, where it has a name
 abbrev pub tape_words : Option (List ℕ) → List (List ℕ) → List (List ℕ)
@@ -36,11 +37,24 @@ abbrev pub live_words : List ℕ → List ℕ → List ℕ → List ℕ → List
 live_words image plant dump slices len tape =
     codes "live" ∷ (codes "--slices=" ++ slices) ∷ (codes "--len=" ++ len) ∷ tape_words tape (codes "--" ∷ image ∷ plant ∷ dump ∷ [])
 
--- what the texts that the parser tells ask for
-abbrev pub live_told : (List ℕ → Option (List ℕ)) → Option Command
-live_told told =
-    asked kind.Live (unwrap_or (told (codes "image")) [] ∷ unwrap_or (told (codes "plant")) [] ∷ unwrap_or (told (codes "dump")) [] ∷ [])
-    (told (codes "slices") ∷ told (codes "len") ∷ told (codes "tape") ∷ [])
+-- what the parser tells of each text, by its name
+abbrev pub live_text : List (List ℕ) → List ℕ → Option (List ℕ)
+live_text words name = first_of name (matches_of live_parser words)
+
+-- words that the parser takes, and of which it tells each text that must be given
+pub record IsLive (words : List (List ℕ)) : Type 0 where
+  pub taken : takes live_parser words ≡ true
+  pub image : IsSome (live_text words (codes "image"))
+  pub plant : IsSome (live_text words (codes "plant"))
+  pub dump : IsSome (live_text words (codes "dump"))
+  pub slices : IsSome (live_text words (codes "slices"))
+  pub len : IsSome (live_text words (codes "len"))
+
+-- what these texts ask for
+abbrev pub live_asked : List (List ℕ) → Option Command
+live_asked words =
+    asked kind.Live (unwrap_or (live_text words (codes "image")) [] ∷ unwrap_or (live_text words (codes "plant")) [] ∷ unwrap_or (live_text words (codes "dump")) [] ∷ [])
+    (live_text words (codes "slices") ∷ live_text words (codes "len") ∷ live_text words (codes "tape") ∷ [])
 
 abbrev pub points_parser : App
 points_parser = with_rule (with_rule (new_app (codes "points")) (new_rule (codes "image"))) (new_rule (codes "dump"))

@@ -108,7 +108,7 @@ fn named_live_form<'a>(
     len: &'a str,
     tape: Option<Text<'a>>,
 ) -> Option<Form<'a>>
-    ensures same { option_and_then asked_by result ≡ asked kind.Live names.now (Some slices.now ∷ Some len.now ∷ tape ∷ []) }
+    ensures same { option_and_then asked_by result ≡ asked kind.Live names.now (Some slices.now ∷ Some len.now ∷ tape.entry ∷ []) }
     ensures sure { IfSome result (λ form. IsSome (asked_by form)) }
 {
     match names {

@@ -2,7 +2,7 @@
 
 ghost use Rattle.std.specs.Prelude.{◌≡◌, IfOk, false};
 ghost use Rattle.clap.specs.Words.{app_of, rule_of, new_rule};
-ghost use Rattle.tm_words.specs.Parsers.{option_rule, trace_parser, record_parser, live_parser, points_parser, replay_parser, make_parser};
+ghost use Rattle.tm_words.specs.Parsers.{option_rule, trace_parser, record_parser, live_options, live_parser, points_parser, replay_parser, make_parser};
 
 use clap::{Arg, Command};
 use std::alloc::{AllocError, Global};
@@ -40,13 +40,20 @@ pub(crate) fn record_parser<'a>(alloc: Global) -> Result<Command<'a>, AllocError
         .arg(text(alloc, "dump"))
 }
 
-pub(crate) fn live_parser<'a>(alloc: Global) -> Result<Command<'a>, AllocError>
-    ensures { IfOk result (λ parser. app_of parser ≡ live_parser) }
+/// The options of a run beside devices.
+fn live_options<'a>(alloc: Global) -> Result<Command<'a>, AllocError>
+    ensures { IfOk result (λ parser. app_of parser ≡ live_options) }
 {
     Command::new(alloc, "live")
         .arg(option(alloc, "slices"))?
         .arg(option(alloc, "len"))?
-        .arg(option(alloc, "tape"))?
+        .arg(option(alloc, "tape"))
+}
+
+pub(crate) fn live_parser<'a>(alloc: Global) -> Result<Command<'a>, AllocError>
+    ensures { IfOk result (λ parser. app_of parser ≡ live_parser) }
+{
+    live_options(alloc)?
         .arg(text(alloc, "image"))?
         .arg(text(alloc, "plant"))?
         .arg(text(alloc, "dump"))

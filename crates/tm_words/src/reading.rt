@@ -7,7 +7,7 @@ ghost use Rattle.clap.specs.declared.error.kind.ErrorKind.TheVariants.{OutOfMemo
 ghost use Rattle.tm_words.specs.declared.kind.Kind.TheVariants as kind;
 ghost use Rattle.tm_words.specs.Command.{asked, is_named};
 ghost use Rattle.tm_words.specs.Forms.{asked_by};
-ghost use Rattle.tm_words.specs.Parsers.{live_parser, live_told};
+ghost use Rattle.tm_words.specs.Parsers.{IsLive, live_asked};
 
 use crate::command::Command;
 use crate::form::Form;
@@ -82,6 +82,20 @@ fn name_in(alloc: Global, matches: &ArgMatches<'_>, name: &str) -> Result<Name, 
     ensures { IfOk result (λ given. Some given ≡ first_value (found_of matches.now) name.now) }
 {
     Name::new(alloc, text_in(matches, name))
+}
+
+/// The same, where the parser was given one.
+fn optional_name_in(
+    alloc: Global,
+    matches: &ArgMatches<'_>,
+    name: &str,
+) -> Result<Option<Name>, AllocError>
+    ensures { IfOk result (λ given. given ≡ first_value (found_of matches.now) name.now) }
+{
+    match matches.get_str(name) {
+        Some(text) => Ok(Some(Name::new(alloc, text)?)),
+        None => Ok(None),
+    }
 }
 
 fn read_trace(alloc: Global, image: &str, plan: &str) -> Result<Command, AllocError>
@@ -174,22 +188,14 @@ fn read_taped(
 
 /// The same, of words in the order that the parser takes.
 fn read_live_words(alloc: Global, words: &[&str]) -> Result<Option<Command>, AllocError>
-    requires taken { takes live_parser (map (λ word. word.now) words.now) ≡ true }
-    requires image { IsSome (first_of (codes "image") (matches_of live_parser (map (λ word. word.now) words.now))) }
-    requires plant { IsSome (first_of (codes "plant") (matches_of live_parser (map (λ word. word.now) words.now))) }
-    requires dump { IsSome (first_of (codes "dump") (matches_of live_parser (map (λ word. word.now) words.now))) }
-    requires slices { IsSome (first_of (codes "slices") (matches_of live_parser (map (λ word. word.now) words.now))) }
-    requires len { IsSome (first_of (codes "len") (matches_of live_parser (map (λ word. word.now) words.now))) }
-    ensures { IfOk result (λ command. command ≡ live_told (λ name. first_of name (matches_of live_parser (map (λ word. word.now) words.now)))) }
+    requires { IsLive (map (λ word. word.now) words.now) }
+    ensures { IfOk result (λ command. command ≡ live_asked (map (λ word. word.now) words.now)) }
 {
     let matches = matches_of(live_parser(alloc)?, words)?;
     let image = name_in(alloc, &matches, "image")?;
     let plant = name_in(alloc, &matches, "plant")?;
     let dump = name_in(alloc, &matches, "dump")?;
-    let tape = match matches.get_str("tape") {
-        Some(tape) => Some(Name::new(alloc, tape)?),
-        None => None,
-    };
+    let tape = optional_name_in(alloc, &matches, "tape")?;
     let slices = text_in(&matches, "slices");
     let len = text_in(&matches, "len");
     Ok(live_of(image, plant, dump, slices, len, tape))
