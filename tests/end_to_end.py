@@ -12,7 +12,7 @@ sys.dont_write_bytecode = True
 
 import shared
 
-COMMANDS = ("trace", "record", "points", "replay", "make", "puts", "faults", "edge", "information", "pages", "hostile")
+COMMANDS = ("trace", "record", "live", "points", "replay", "make", "puts", "faults", "edge", "information", "pages", "hostile")
 
 
 def main():

@@ -7,6 +7,10 @@ tm runs preemptive control software, prints or records what it did, and replays 
 
     tm trace IMAGE PLAN             prints the whole run of the plan on the image, from boot
     tm record IMAGE PLAN DUMP       puts the dump of that run's buffers, and prints nothing
+    tm live IMAGE PLANT DUMP --slices N --len L [--tape NAME]
+                                    runs N slices of L instructions beside the devices of the plant,
+                                    puts the dump, then the tape of the slices, which is a plan,
+                                    and prints what became of the interrupts
     tm points IMAGE DUMP            prints the points from which the dump can be replayed
     tm replay IMAGE DUMP --from P [--workers W]
                                     prints the run from point P on, as the dump tells it, by W workers
@@ -15,20 +19,21 @@ tm runs preemptive control software, prints or records what it did, and replays 
     tm --help                       prints this
     tm --version                    prints the version
 
-IMAGE, PLAN and DUMP are names of files. A name isn't empty and doesn't begin with a dash.
-Numbers are 1 to 20 decimal digits: P is below 2^64, N below 2^32, and W is 1 to 16.
+IMAGE, PLAN, PLANT, DUMP and NAME are names of files. A name isn't empty and doesn't begin with a dash.
+Numbers are 1 to 20 decimal digits: P is below 2^64, the N of make below 2^32, W is 1 to 16, and the N
+and L of live are at most 1048576. The tape has another name than the dump.
 An option stands anywhere behind the command, as --from P or --from=P.
 A status other than 0 is told by one line on standard error.
 
-    0   the text was printed, or the dump put
+    0   the text was printed, and the dump and the tape put
     2   the words are of no form above
     3   a file can't be read
     4   the image is refused, by its first bad line
-    5   the plan is refused, by its first bad line
+    5   the plan or the plant is refused, by its first bad line
     6   the dump is refused: it is no dump of a run of the image
     7   the dump can't be replayed from the point: something that it needs is lost
     8   the tasks of the image don't do what the dump says
-    9   standard output takes no more bytes, or the dump can't be put
+    9   standard output takes no more bytes, or the dump or the tape can't be put
     10  the first or the second file is longer than its limit
     11  there is not enough memory
 ";

@@ -3,10 +3,13 @@
 
 mod help;
 
+use std::alloc::Global;
 use std::env;
 use std::io::{self, Write};
 use std::process::ExitCode;
-use tm_io::{FileShelf, Open, OutSink};
+use std::thread::Threads;
+use tm_io::{FileShelf, Open, OutSink, Shelf, Sink};
+use tm_irq::Bench;
 use tm_prog::{Status, tm};
 
 /// The words after the program's name. A word that is no UTF-8 makes them words of no form.
@@ -39,6 +42,20 @@ fn inform(rt: &HostRuntime, text: &str) -> Status {
     }
 }
 
+/// Does what the words ask for, beside eight devices.
+fn run(
+    rt: &(impl Threads + Sync),
+    alloc: Global,
+    words: &[String],
+    shelf: &mut impl Shelf,
+    out: &mut impl Sink,
+) -> Status {
+    match Bench::new(alloc, 8) {
+        Ok(mut bench) => tm(rt, alloc, words, shelf, out, &mut bench, &Open),
+        Err(_) => Status::Memory,
+    }
+}
+
 /// Prints the status line, which takes memory only where it has a number in it; where it can't be made or
 /// printed, nothing is.
 fn report(rt: &HostRuntime, status: Status) {
@@ -56,13 +73,12 @@ fn main(rt: HostRuntime) -> ExitCode {
     let status = match words(&rt) {
         Ok(words) => match information(&words) {
             Some(text) => inform(&rt, text),
-            None => tm(
+            None => run(
                 &rt,
                 rt.alloc(),
                 &words,
                 &mut FileShelf::new(&rt),
                 &mut OutSink::new(&rt),
-                &Open,
             ),
         },
         Err(status) => status,

@@ -1,23 +1,24 @@
 -- What follows from how a call ended, by its class alone.
-use Rattle.std.proofs.Common.{◌≡◌, ◌≢◌, ℕ, ◌<◌, List, [], ◌∷◌, map, length, All, Option, Some, None, Result, Ok, Err, Bool, true, false, IsTrue, ◌⊎◌, inl, inr, refl, sym, ap, ◌∙◌, subst, arith, nat_lt, ◌+◌, ◌≤◌, get_or}
+use Rattle.std.proofs.Common.{◌≡◌, ◌≢◌, ℕ, List, [], ◌∷◌, map, All, Option, Some, None, Ok, Bool, true, false, IsTrue, ◌⊎◌, inl, inr, refl, sym, ap, ◌∙◌, subst, arith, nat_lt, ◌+◌, ◌≤◌}
 use Rattle.std.specs.Prelude.{if◌then◌else◌}
 use Rattle.std.specs.Str.{bytes_eq}
 use Rattle.std.proofs.lemmas.Bool.Decides.{nat_tests}
 use Rattle.std.proofs.lemmas.List.Elements.{All-head, All-tail, All-same}
 use Rattle.std.proofs.lemmas.Slice.Eq.{bytes_eq-Decides}
 use Rattle.tm_io.specs.Counts.{Rose, counted, last_count}
-use Rattle.tm_io.specs.Shelf.{ShelfView, put_in, get_failed, held, PutFailed}
-use Rattle.tm_io.specs.Sink.{SinkView, took, write_failed}
+use Rattle.tm_io.specs.Shelf.{ShelfView, put_in, held}
+use Rattle.tm_io.specs.Sink.{SinkView}
 use Rattle.tm_prog.specs.declared.status.Status.{Status}
 use Rattle.tm_prog.specs.declared.status.Status.TheVariants as status
 use Rattle.tm_words.specs.declared.command.Command.{Command}
 use Rattle.tm_prog.specs.Class.{Class, class_of, Done, HalfDone, Unasked, Unread, Starved, Refusal}
 use Rattle.tm_prog.specs.Made.{PutView, MadeView}
+use Rattle.tm_prog.specs.Gained.{Gained}
 use Rattle.tm_prog.specs.Reads.{CanRefuse}
 use Rattle.tm_prog.specs.MadeFor.{names_put, IsMadeFor}
 use Rattle.tm_prog.specs.Answer.{answer_of}
-use Rattle.tm_prog.specs.World.{World, all_put, all_done, PutsStopped, IsHalfDone}
-use Rattle.tm_prog.specs.Outcome.{Ends, Counts, CountsStay, GetCounted, PutCounted, WriteCounted, Stays, OthersStay, NoneRose, IsDone}
+use Rattle.tm_prog.specs.World.{World, all_put, PutsStopped, IsHalfDone}
+use Rattle.tm_prog.specs.Outcome.{Ends, Counts, CountsStay, PutCounted, WriteCounted, Stays, OthersStay, NoneRose, IsDone}
 
 -- of a shelf only the contents and the count of puts change by puts
 record PutsKeep (old new : ShelfView) : Type 0 where
@@ -79,21 +80,21 @@ part_counts before after shelf sink = record {
   faults = ap (λ (k : SinkView). k.faults) sink;
 }
 
-pub counts : (class : Class) (s : Status) (command : Option Command) (before after : World) → Ends class s command before after → Counts class before after
-counts Done s command before after e = record {
+pub counts : (class : Class) (s : Status) (command : Option Command) (gained : Gained) (before after : World) → Ends class s command gained before after → Counts class before after
+counts Done s command gained before after e = record {
   gets = ap (λ (w : World). w.shelf.gets) e.2 ∙ (puts_keep e.0.puts before.shelf).gets;
   puts = ap (λ (w : World). w.shelf.puts) e.2 ∙ puts_count e.0.puts before.shelf;
   faults = ap (λ (w : World). w.sink.faults) e.2;
 }
-counts HalfDone s command before after e = half_counts e.0 before after e.2
-counts Unasked s command before after e = same_counts before after e.0
-counts Unread s command before after e = record {
+counts HalfDone s command gained before after e = half_counts e.0 before after e.2
+counts Unasked s command gained before after e = same_counts before after e.0
+counts Unread s command gained before after e = record {
   gets = ap (λ (s : ShelfView). s.gets) e.0.0;
   puts = ap (λ (s : ShelfView). s.puts) e.0.0;
   faults = ap (λ (k : SinkView). k.faults) e.1;
 }
-counts Starved s command before after e = part_counts before after e.0 e.1
-counts Refusal s command before after e = part_counts before after e.0.0 e.1
+counts Starved s command gained before after e = part_counts before after e.0 e.1
+counts Refusal s command gained before after e = part_counts before after e.0.0 e.1
 
 half_stays : (made : MadeView) (before after : World) → IsHalfDone made before after → Stays before after
 half_stays made before after (inl stopped) =
@@ -119,8 +120,8 @@ part_stays before after shelf is kept sink = record {
 same_keeps : (s : ShelfView) → PutsKeep s s
 same_keeps s = puts_keep [] s
 
-pub stays : (class : Class) (s : Status) (command : Option Command) (before after : World) → Ends class s command before after → Stays before after
-stays Done s command before after e =
+pub stays : (class : Class) (s : Status) (command : Option Command) (gained : Gained) (before after : World) → Ends class s command gained before after → Stays before after
+stays Done s command gained before after e =
     let kept = puts_keep e.0.puts before.shelf in
     record {
       tells = ap (λ (w : World). w.shelf.tells) e.2 ∙ kept.tells;
@@ -128,16 +129,16 @@ stays Done s command before after e =
       rooms = ap (λ (w : World). w.shelf.room) e.2 ∙ kept.room;
       sink_calm = ap (λ (w : World). w.sink.calm) e.2;
     }
-stays HalfDone s command before after e = half_stays e.0 before after e.2
-stays Unasked s command before after e = part_stays before after before.shelf (ap (λ (w : World). w.shelf) e.0) (same_keeps before.shelf) (ap (λ (w : World). w.sink) e.0)
-stays Unread s command before after e = record {
+stays HalfDone s command gained before after e = half_stays e.0 before after e.2
+stays Unasked s command gained before after e = part_stays before after before.shelf (ap (λ (w : World). w.shelf) e.0) (same_keeps before.shelf) (ap (λ (w : World). w.sink) e.0)
+stays Unread s command gained before after e = record {
   tells = ap (λ (s : ShelfView). s.tells) e.0.0;
   calm = ap (λ (s : ShelfView). s.calm) e.0.0;
   rooms = ap (λ (s : ShelfView). s.room) e.0.0;
   sink_calm = ap (λ (k : SinkView). k.calm) e.1;
 }
-stays Starved s command before after e = part_stays before after before.shelf e.0 (same_keeps before.shelf) e.1
-stays Refusal s command before after e = part_stays before after before.shelf e.0.0 (same_keeps before.shelf) e.1
+stays Starved s command gained before after e = part_stays before after before.shelf e.0 (same_keeps before.shelf) e.1
+stays Refusal s command gained before after e = part_stays before after before.shelf e.0.0 (same_keeps before.shelf) e.1
 
 not_true : (b : Bool) → (b ≡ true → ⊥) → b ≡ false
 not_true true h = absurd (h refl)
@@ -177,30 +178,30 @@ elsewhere : (command : Command) (made : MadeView) (other : List ℕ) → IsMadeF
     All (λ name. other ≢ name) (names_put command) → All (λ name. other ≢ name) (map (λ p. p.name) made.puts)
 elsewhere command made other for apart = All-same (λ name. other ≢ name) _ _ for.names apart
 
-pub contents_stay : (class : Class) (s : Status) (command : Option Command) (before after : World) → Ends class s command before after →
+pub contents_stay : (class : Class) (s : Status) (command : Option Command) (gained : Gained) (before after : World) → Ends class s command gained before after →
     class ≢ Done → class ≢ HalfDone → after.shelf.content ≡ before.shelf.content
-contents_stay Done s command before after e not_done not_half = absurd (not_done refl)
-contents_stay HalfDone s command before after e not_done not_half = absurd (not_half refl)
-contents_stay Unasked s command before after e not_done not_half = ap (λ (w : World). w.shelf.content) e.0
-contents_stay Unread s command before after e not_done not_half = ap (λ (s : ShelfView). s.content) e.0.0
-contents_stay Starved s command before after e not_done not_half = ap (λ (s : ShelfView). s.content) e.0
-contents_stay Refusal s command before after e not_done not_half = ap (λ (s : ShelfView). s.content) e.0.0
+contents_stay Done s command gained before after e not_done not_half = absurd (not_done refl)
+contents_stay HalfDone s command gained before after e not_done not_half = absurd (not_half refl)
+contents_stay Unasked s command gained before after e not_done not_half = ap (λ (w : World). w.shelf.content) e.0
+contents_stay Unread s command gained before after e not_done not_half = ap (λ (s : ShelfView). s.content) e.0.0
+contents_stay Starved s command gained before after e not_done not_half = ap (λ (s : ShelfView). s.content) e.0
+contents_stay Refusal s command gained before after e not_done not_half = ap (λ (s : ShelfView). s.content) e.0.0
 
 all_same : (command : Option Command) (before after : World) → after.shelf.content ≡ before.shelf.content → OthersStay command before after
 all_same None before after same = same
 all_same (Some command) before after same = λ name apart. ap (λ (content : List ℕ → Option (List ℕ)). content name) same
 
-pub others_stay : (class : Class) (s : Status) (command : Option Command) (before after : World) → Ends class s command before after → OthersStay command before after
-others_stay Done s None before after e = absurd e.1
-others_stay Done s (Some command) before after e = λ name apart.
+pub others_stay : (class : Class) (s : Status) (command : Option Command) (gained : Gained) (before after : World) → Ends class s command gained before after → OthersStay command before after
+others_stay Done s None gained before after e = absurd e.1
+others_stay Done s (Some command) gained before after e = λ name apart.
     ap (λ (w : World). w.shelf.content name) e.2 ∙ puts_elsewhere e.0.puts before.shelf name (elsewhere command e.0 name e.1.0 apart)
-others_stay HalfDone s None before after e = absurd e.1
-others_stay HalfDone s (Some command) before after e = λ name apart.
+others_stay HalfDone s None gained before after e = absurd e.1
+others_stay HalfDone s (Some command) gained before after e = λ name apart.
     half_elsewhere e.0 before after name (elsewhere command e.0 name e.1.0 apart) e.2
-others_stay Unasked s command before after e = all_same command before after (ap (λ (w : World). w.shelf.content) e.0)
-others_stay Unread s command before after e = all_same command before after (ap (λ (s : ShelfView). s.content) e.0.0)
-others_stay Starved s command before after e = all_same command before after (ap (λ (s : ShelfView). s.content) e.0)
-others_stay Refusal s command before after e = all_same command before after (ap (λ (s : ShelfView). s.content) e.0.0)
+others_stay Unasked s command gained before after e = all_same command before after (ap (λ (w : World). w.shelf.content) e.0)
+others_stay Unread s command gained before after e = all_same command before after (ap (λ (s : ShelfView). s.content) e.0.0)
+others_stay Starved s command gained before after e = all_same command before after (ap (λ (s : ShelfView). s.content) e.0)
+others_stay Refusal s command gained before after e = all_same command before after (ap (λ (s : ShelfView). s.content) e.0.0)
 
 -- a class with one status
 pub done_is : (s : Status) → class_of s ≡ Done → s ≡ status.Ok
@@ -242,10 +243,10 @@ starved_is status.WriteFault is = cc
 starved_is (status.TooLong file) is = cc
 starved_is status.Memory is = refl
 
-pub unput : (s : Status) (command : Option Command) (before after : World) → Ends (class_of s) s command before after →
+pub unput : (s : Status) (command : Option Command) (gained : Gained) (before after : World) → Ends (class_of s) s command gained before after →
     s ≢ status.Ok → s ≢ status.WriteFault → after.shelf.content ≡ before.shelf.content
-unput s command before after e not_ok not_fault =
-    contents_stay (class_of s) s command before after e (λ is. not_ok (done_is s is)) (λ is. not_fault (half_done_is s is))
+unput s command gained before after e not_ok not_fault =
+    contents_stay (class_of s) s command gained before after e (λ is. not_ok (done_is s is)) (λ is. not_fault (half_done_is s is))
 
 at_last : (n : ℕ) → nat_lt n last_count ≡ false → last_count ≤ n
 at_last n is = grind (arith, nat_tests)
@@ -265,29 +266,29 @@ one_rose before after quiet (inl put) = quiet.puts (rose _ _ put.puts)
 one_rose before after quiet (inr write) = quiet.faults (rose _ _ write.faults)
 
 -- a call in which no count rose met no fault
-pub undisturbed : (class : Class) (s : Status) (command : Option Command) (before after : World) (made : MadeView) →
-    Ends class s command before after → class_of s ≡ class → IsTrue before.shelf.tells →
-    answer_of command before.shelf.content ≡ Some (Ok made) → NoneRose before after → IsDone s
-undisturbed Done s command before after made e is tells due quiet = inl (done_is s is)
-undisturbed HalfDone s command before after made e is tells due quiet =
+pub undisturbed : (class : Class) (s : Status) (command : Option Command) (gained : Gained) (before after : World) (made : MadeView) →
+    Ends class s command gained before after → class_of s ≡ class → IsTrue before.shelf.tells →
+    answer_of command gained before.shelf.content ≡ Some (Ok made) → NoneRose before after → IsDone s
+undisturbed Done s command gained before after made e is tells due quiet = inl (done_is s is)
+undisturbed HalfDone s command gained before after made e is tells due quiet =
     absurd (one_rose before after quiet (half_counts e.0 before after e.2))
-undisturbed Unasked s command before after made e is tells due quiet =
-    let none : answer_of None before.shelf.content ≡ Some (Ok made) =
-    subst (λ (q : Option Command). answer_of q before.shelf.content ≡ Some (Ok made)) e.1 due in cc
-undisturbed Unread s command before after made e is tells due quiet =
+undisturbed Unasked s command gained before after made e is tells due quiet =
+    let none : answer_of None gained before.shelf.content ≡ Some (Ok made) =
+    subst (λ (q : Option Command). answer_of q gained before.shelf.content ≡ Some (Ok made)) e.1 due in cc
+undisturbed Unread s command gained before after made e is tells due quiet =
     absurd (quiet.gets (rose _ _ (ap (λ (s : ShelfView). s.gets) e.0.0)))
-undisturbed Starved s command before after made e is tells due quiet = inr (starved_is s is)
-undisturbed Refusal s command before after made e is tells due quiet = let refused = e.0.2 tells in cc
+undisturbed Starved s command gained before after made e is tells due quiet = inr (starved_is s is)
+undisturbed Refusal s command gained before after made e is tells due quiet = let refused = e.0.2 tells in cc
 
-pub refusals : (s : Status) (command : Option Command) (before after : World) → Ends (class_of s) s command before after → CanRefuse s
-refusals status.Ok command before after e = tt
-refusals status.Words command before after e = tt
-refusals status.ReadFault command before after e = tt
-refusals (status.Image fault) command before after e = e.0.1
-refusals (status.Plan fault) command before after e = e.0.1
-refusals (status.Dump fault) command before after e = e.0.1
-refusals (status.Point missing) command before after e = tt
-refusals (status.Diverged found) command before after e = tt
-refusals status.WriteFault command before after e = tt
-refusals (status.TooLong file) command before after e = e.0.1
-refusals status.Memory command before after e = tt
+pub refusals : (s : Status) (command : Option Command) (gained : Gained) (before after : World) → Ends (class_of s) s command gained before after → CanRefuse s
+refusals status.Ok command gained before after e = tt
+refusals status.Words command gained before after e = tt
+refusals status.ReadFault command gained before after e = tt
+refusals (status.Image fault) command gained before after e = e.0.1
+refusals (status.Plan fault) command gained before after e = e.0.1
+refusals (status.Dump fault) command gained before after e = e.0.1
+refusals (status.Point missing) command gained before after e = tt
+refusals (status.Diverged found) command gained before after e = tt
+refusals status.WriteFault command gained before after e = tt
+refusals (status.TooLong file) command gained before after e = e.0.1
+refusals status.Memory command gained before after e = tt

@@ -1,12 +1,12 @@
 -- What a window that is well formed and can be replayed gives to the writing of its text.
-use Rattle.std.proofs.Common.{◌≡◌, ℕ, ◌≤◌, ◌<◌, List, [], ◌∷◌, length, All, get_or, Fits, w8, Option, Some, None, Ok, Err, refl, sym, ap, ◌∙◌, subst, arith}
+use Rattle.std.proofs.Common.{◌≡◌, ℕ, ◌≤◌, ◌<◌, List, [], ◌∷◌, length, All, get_or, Fits, w8, Ok, sym, ap, ◌∙◌, subst, arith}
 use Rattle.std.proofs.lemmas.Option.{get_or_from_slice_get}
 use Rattle.std.proofs.lemmas.List.Elements.{All-from_get_or}
 use Rattle.tm_marker.specs.declared.shape.Shape.{Shape}
 use Rattle.tm_marker.specs.declared.entries.Switch.{Switch}
 use Rattle.tm_marker.specs.declared.entries.Kind.{Kind}
 use Rattle.tm_marker.specs.declared.entries.Kind.TheVariants.{Preempted, Waits, Ends, Fault, Shutdown, Idle}
-use Rattle.tm_image.specs.Image.{ImageView, shape_of}
+use Rattle.tm_image.specs.Image.{ImageView}
 use Rattle.tm_log.specs.Window.{WindowView, IsWindow}
 use Rattle.tm_log.specs.WellFormed.{IsWellFormed, ended_by, ended_last}
 use Rattle.tm_points.specs.Finder.{lost_of}
@@ -15,8 +15,8 @@ use Rattle.tm_spelling.specs.Story.{spelled}
 use Rattle.tm_text.specs.Views.{replay_story}
 use Rattle.tm_text.specs.declared.seen.Replay.{Replay}
 use Rattle.tm_replay.specs.Answers.{IsReplay}
-use Rattle.tm_prog.specs.ReplayCommand.{told_from, unless_lost}
-use Rattle.tm_prog.specs.Made.{MadeView, text_alone}
+use Rattle.tm_prog.specs.ReplayCommand.{unless_lost}
+use Rattle.tm_prog.specs.Made.{text_alone}
 use Rattle.tm_prog.proofs.ToldRuns.{fits_tell}
 
 ends_small : (kind : Kind) → ended_by kind ≤ 2

@@ -1,13 +1,12 @@
 -- The plain answers to `points` and `replay` on the dump of a run.
-use Rattle.std.proofs.Common.{◌≡◌, ℕ, ◌+◌, Bool, true, false, nat_le, List, length, filter, Option, Some, None, Result, Ok, Err, IsTrue, ◌⊎◌, inl, inr, refl, sym, ap, ◌∙◌, subst, arith}
-use Rattle.std.specs.Prelude.{is_none, is_some, IsOk, if◌then◌else◌}
+use Rattle.std.proofs.Common.{◌≡◌, ℕ, Bool, true, false, nat_le, List, length, Option, Some, None, Result, Ok, Err, refl, ap, ◌∙◌, subst, arith}
+use Rattle.std.specs.Prelude.{is_none, IsOk, if◌then◌else◌}
 use Rattle.std.specs.List.{flat_map}
 use Rattle.std.proofs.lemmas.Bool.Decides.{nat_tests}
 use Rattle.sha2.proofs.Facts256.{length-sha256}
 use Rattle.tm_marker.specs.declared.entries.Slice.{Slice}
 use Rattle.tm_lines.specs.declared.fault.Fault.{Fault}
-use Rattle.tm_image.specs.Draft.{Draft}
-use Rattle.tm_image.specs.Image.{ImageView, IsImage, image_of, image_digest, draft_of, image_with, shape_of}
+use Rattle.tm_image.specs.Image.{ImageView, IsImage, image_of, image_digest, draft_of, image_with}
 use Rattle.tm_lines.proofs.Steps.{bound}
 use Rattle.tm_image.proofs.Wholes.{image_is}
 use Rattle.tm_log.specs.Window.{WindowView}
@@ -21,7 +20,6 @@ use Rattle.tm_system.specs.Replaying.{replayed, text_of_window}
 use Rattle.tm_points.specs.declared.finder.Lost.{Lost}
 use Rattle.tm_points.specs.Finder.{lost_of}
 use Rattle.tm_points.specs.Points.{is_accepted, points_of}
-use Rattle.tm_dump.specs.Reading.{window_in}
 use Rattle.tm_widths.specs.Numbers.{FitsImage}
 use Rattle.tm_widths.specs.Legible.{IsScript}
 use Rattle.tm_widths.proofs.Images.{images_fit}
@@ -32,7 +30,7 @@ use Rattle.tm_fidelity.proofs.Closing.{replays_are_faithful}
 use Rattle.tm_prog.specs.declared.limits.TheConstants.{IMAGE_LIMIT, DUMP_LIMIT}
 use Rattle.tm_prog.specs.declared.status.Status.{Status}
 use Rattle.tm_prog.specs.declared.status.Status.TheVariants.{Image, Point, TooLong}
-use Rattle.tm_prog.specs.Made.{MadeView, prints, text_alone}
+use Rattle.tm_prog.specs.Made.{prints, text_alone}
 use Rattle.tm_prog.specs.Reads.{◌>>=◌}
 use Rattle.tm_prog.specs.Files.{said, image_said, image_in, window_file_in}
 use Rattle.tm_prog.specs.RecordCommand.{dump_of_run}

@@ -1,5 +1,5 @@
 -- A teller that hears a moment goes on with the history.
-use Rattle.std.proofs.Common.{Result, OnOk, ◌≡◌, ◌≢◌, ℕ, ◌+◌, ◌*◌, ◌^◌, ◌<◌, ◌≤◌, List, [], ◌∷◌, length, length-take, take, get_or, subst, sym, ap, ◌∙◌, arith, IfSome, All, inl, inr, refl}
+use Rattle.std.proofs.Common.{Result, OnOk, ◌≡◌, ℕ, ◌+◌, ◌*◌, ◌^◌, ◌<◌, ◌≤◌, List, [], ◌∷◌, length, length-take, take, get_or, subst, sym, ap, ◌∙◌, arith, IfSome, All, inl, inr, refl}
 use Rattle.std.proofs.lemmas.Bool.{cases_Bool}
 use Rattle.std.proofs.lemmas.List.{take_more}
 use Rattle.std.proofs.lemmas.List.Elements.{All-take}

@@ -10,6 +10,8 @@ use Rattle.tm_lines.specs.declared.fault.Reason.{Reason}
 use Rattle.tm_lines.specs.declared.fault.Reason.TheVariants as reason
 use Rattle.tm_image.specs.Image.{ImageView, image_of, shape_of}
 use Rattle.tm_image.specs.Plan.{plan_of}
+use Rattle.tm_plant.specs.declared.plant.Act.{Act}
+use Rattle.tm_plant.specs.Plant.{plant_of}
 use Rattle.tm_prog.specs.declared.status.Status.{Status}
 use Rattle.tm_prog.specs.declared.status.Status.TheVariants.{Image, Plan, Dump, Memory}
 use Rattle.tm_prog.specs.declared.limits.TheConstants.{IMAGE_LIMIT, PLAN_LIMIT, DUMP_LIMIT}
@@ -28,6 +30,10 @@ image_said bytes = said Image (image_of bytes)
 abbrev pub script_said : List ℕ → Result (List Slice) Status
 script_said bytes = said Plan (plan_of bytes)
 
+-- what each device does by the plant that bytes spell, or the refusal of the plant's text
+abbrev pub plant_said : List ℕ → Result (List (List Act)) Status
+plant_said bytes = said Plan (plant_of bytes)
+
 -- the window of the image that bytes are the dump of, or the refusal of the dump
 abbrev pub window_said : ImageView → List ℕ → Result WindowView Status
 window_said image bytes = said Dump (window_in (shape_of image) bytes)
@@ -40,6 +46,10 @@ image_in file = file_in IMAGE_LIMIT 1 image_said file
 abbrev pub script_in : Option (List ℕ) → Option (Result (List Slice) Status)
 script_in file = file_in PLAN_LIMIT 2 script_said file
 
+-- the plant in the second file
+abbrev pub plant_in : Option (List ℕ) → Option (Result (List (List Act)) Status)
+plant_in file = file_in PLAN_LIMIT 2 plant_said file
+
 -- the window of the image in the second file
 abbrev pub window_file_in : ImageView → Option (List ℕ) → Option (Result WindowView Status)
 window_file_in image file = file_in DUMP_LIMIT 2 (window_said image) file
@@ -49,7 +59,7 @@ abbrev pub image_status : Fault → Reason → Status
 image_status fault reason.Memory = Memory
 image_status fault _ = Image fault
 
--- the same for a plan's text
+-- the same for the text of a plan or a plant
 abbrev pub plan_status : Fault → Reason → Status
 plan_status fault reason.Memory = Memory
 plan_status fault _ = Plan fault

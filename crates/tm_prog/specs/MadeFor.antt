@@ -1,13 +1,19 @@
 -- Under which names a command puts, and whether it prints.
-use Rattle.std.specs.Prelude.{◌≡◌, ℕ, Bool, true, false, List, [], ◌∷◌, map}
+use Rattle.std.specs.Prelude.{◌≡◌, ℕ, Bool, true, false, List, [], ◌∷◌, map, Option, Some, None}
 use Rattle.tm_words.specs.declared.command.Command.{Command}
-use Rattle.tm_words.specs.declared.command.Command.TheVariants.{Trace, Record, Points, Replay, Make}
+use Rattle.tm_words.specs.declared.command.Command.TheVariants.{Trace, Record, Live, Points, Replay, Make}
 use Rattle.tm_prog.specs.Made.{MadeView}
+
+-- the name of a tape, where one is put
+abbrev pub tape_name : Option (List ℕ) → List (List ℕ)
+tape_name None = []
+tape_name (Some tape) = tape ∷ []
 
 -- the names that a command puts, in this order
 abbrev pub names_put : Command → List (List ℕ)
 names_put (Trace image plan) = []
 names_put (Record image plan dump) = dump ∷ []
+names_put (Live image plant dump slices len tape) = dump ∷ tape_name tape
 names_put (Points image dump) = []
 names_put (Replay image dump point workers) = []
 names_put (Make number) = []
@@ -16,6 +22,7 @@ names_put (Make number) = []
 abbrev pub prints_text : Command → Bool
 prints_text (Trace image plan) = true
 prints_text (Record image plan dump) = false
+prints_text (Live image plant dump slices len tape) = true
 prints_text (Points image dump) = true
 prints_text (Replay image dump point workers) = true
 prints_text (Make number) = true

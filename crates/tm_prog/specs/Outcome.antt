@@ -1,30 +1,31 @@
 -- How a status, the plain answer and the world before and after a call belong together.
-use Rattle.std.specs.Prelude.{◌≡◌, ◌≢◌, ℕ, ◌⊎◌, Bool, List, Option, Some, None, Result, Ok, Err, IsTrue, All}
+use Rattle.std.specs.Prelude.{◌≡◌, ◌≢◌, ℕ, ◌⊎◌, List, Option, Some, None, Ok, IsTrue, All}
 use Rattle.tm_io.specs.Counts.{Rose, counted}
 use Rattle.tm_prog.specs.declared.status.Status.{Status}
 use Rattle.tm_prog.specs.declared.status.Status.TheVariants.{Ok as OkStatus, Words, Memory}
 use Rattle.tm_words.specs.declared.command.Command.{Command}
-use Rattle.tm_prog.specs.Class.{Class, class_of, Done, HalfDone, Unasked, Unread, Starved, Refusal}
+use Rattle.tm_prog.specs.Class.{Class, Done, HalfDone, Unasked, Unread}
 use Rattle.tm_prog.specs.Made.{MadeView}
+use Rattle.tm_prog.specs.Gained.{Gained}
 use Rattle.tm_prog.specs.Reads.{IsUnmade}
 use Rattle.tm_prog.specs.MadeFor.{names_put, prints_text, IsMadeFor}
 use Rattle.tm_prog.specs.Answer.{answer_of}
 use Rattle.tm_prog.specs.World.{World, all_done, IsHalfDone}
 
 -- this was made for the command, and is the plain answer where the shelf tells its contents
-abbrev pub IsAnswer : Option Command → MadeView → World → Type 0
-IsAnswer None made before = ⊥
-IsAnswer (Some command) made before =
-    IsMadeFor command made × (IsTrue before.shelf.tells → answer_of (Some command) before.shelf.content ≡ Some (Ok made))
+abbrev pub IsAnswer : Option Command → Gained → MadeView → World → Type 0
+IsAnswer None gained made before = ⊥
+IsAnswer (Some command) gained made before =
+    IsMadeFor command made × (IsTrue before.shelf.tells → answer_of (Some command) gained before.shelf.content ≡ Some (Ok made))
 
 -- all of the plain answer was done; or a part of it, up to a put or a write that failed; the words ask for
 -- nothing, and nothing changed; or nothing was made, and at most a failed get was counted
-abbrev pub Ends : Class → Status → Option Command → World → World → Type 0
-Ends Done status command before after = (made : MadeView) × IsAnswer command made before × (after ≡ all_done made before)
-Ends HalfDone status command before after = (made : MadeView) × IsAnswer command made before × IsHalfDone made before after
-Ends Unasked status command before after = (after ≡ before) × (command ≡ None) × (status ≡ Words)
-Ends class status command before after =
-    IsUnmade class status (answer_of command before.shelf.content) before.shelf after.shelf × (after.sink ≡ before.sink)
+abbrev pub Ends : Class → Status → Option Command → Gained → World → World → Type 0
+Ends Done status command gained before after = (made : MadeView) × IsAnswer command gained made before × (after ≡ all_done made before)
+Ends HalfDone status command gained before after = (made : MadeView) × IsAnswer command gained made before × IsHalfDone made before after
+Ends Unasked status command gained before after = (after ≡ before) × (command ≡ None) × (status ≡ Words)
+Ends class status command gained before after =
+    IsUnmade class status (answer_of command gained before.shelf.content) before.shelf after.shelf × (after.sink ≡ before.sink)
 
 -- the counts of the shelf's gets and puts and of the sink's faults are as before
 pub record CountsStay (before after : World) : Type 0 where

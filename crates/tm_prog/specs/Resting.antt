@@ -10,7 +10,7 @@ use Rattle.tm_system.specs.Run.{running_at}
 use Rattle.tm_system.specs.Telling.{below, start_at, pending}
 use Rattle.tm_system.specs.Machine.{MachineView, told_going_on}
 use Rattle.tm_system.specs.Quiet.{AddsNothing}
-use Rattle.tm_prog.specs.Teller.{TellerView, Tells, HasTold, after_telling}
+use Rattle.tm_prog.specs.Teller.{TellerView, HasTold, after_telling}
 
 pub nothing_told : (machine : MachineView) (task : ℕ) (teller : TellerView) → after_telling machine task told_going_on teller ≡ teller
 nothing_told machine task teller = ap (λ o. (let t : TellerView = record teller { pending = o } in t)) (append-nil teller.pending)

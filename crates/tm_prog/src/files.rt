@@ -12,6 +12,7 @@ use tm_dump::{DumpFault, read_dump};
 use tm_image::{Image, ImageFault, Plan, PlanFault, Reason, read_image, read_plan};
 use tm_io::{GetFault, Shelf};
 use tm_log::Window;
+use tm_plant::{Plant, read_plant};
 use tm_words::Name;
 
 /// A kind of file: how long one may be, and what its bytes say, beside what was read before it.
@@ -43,7 +44,7 @@ fn image_status(fault: ImageFault) -> Status
     }
 }
 
-/// The status for a plan's text that was not read.
+/// The status for the text of a plan or a plant that was not read.
 fn plan_status(fault: PlanFault) -> Status
     ensures { result ≡ plan_status fault fault.reason }
 {
@@ -96,6 +97,24 @@ impl FileKind<()> for Plan {
 
     fn read(alloc: Global, _beside: &(), bytes: &[u8]) -> Result<Plan, Status> {
         read_plan(alloc, bytes).map_err(plan_status)
+    }
+}
+
+impl FileKind<()> for Plant {
+    ghost use Rattle.tm_plant.specs.Plant.{IsPlant};
+    ghost use Rattle.tm_prog.specs.declared.limits.TheConstants.{PLAN_LIMIT};
+    ghost use Rattle.tm_prog.specs.Files.{plant_said};
+
+    ghost LIMIT = { PLAN_LIMIT };
+
+    const LIMIT: u64 = PLAN_LIMIT;
+
+    ghost reading = { λ _. plant_said };
+
+    ghost sound = { λ _. IsPlant };
+
+    fn read(alloc: Global, _beside: &(), bytes: &[u8]) -> Result<Plant, Status> {
+        read_plant(alloc, bytes).map_err(plan_status)
     }
 }
 

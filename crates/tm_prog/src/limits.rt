@@ -6,7 +6,7 @@ ghost use Rattle.tm_prog.specs.RunDumps.{RunDumpsFit};
 /// The most bytes of an image's file.
 pub const IMAGE_LIMIT: u64 = 8 * 1024 * 1024;
 
-/// The most bytes of a plan's file.
+/// The most bytes of the file of a plan or a plant.
 pub const PLAN_LIMIT: u64 = 128 * 1024 * 1024;
 
 /// The most bytes of a dump's file.

@@ -21,7 +21,16 @@ impl<'a> Model for Put<'a> {
     ghost view = { λ put. record { name = put.name.now; bytes = put.bytes.items } };
 }
 
-impl Put<'_> {
+impl<'a> Put<'a> {
+    pub(crate) fn new(name: &'a Name, bytes: Vec<u8>) -> Put<'a>
+        ensures { result ≡ record { name = name.now; bytes = bytes.items } }
+    {
+        Put {
+            name: name.text(),
+            bytes,
+        }
+    }
+
     pub(crate) fn name(&self) -> &str
         ensures { result.now ≡ self.now.name }
     {
@@ -51,6 +60,12 @@ impl<'a> Model for Made<'a> {
 }
 
 impl<'a> Made<'a> {
+    pub(crate) fn new(puts: Vec<Put<'a>>, text: Vec<u8>) -> Made<'a>
+        ensures { result ≡ record { puts = puts.entry.items; text = text.items } }
+    {
+        Made { puts, text }
+    }
+
     /// A text alone.
     pub(crate) fn text_alone(alloc: Global, text: Vec<u8>) -> Made<'a>
         ensures { result ≡ record { puts = []; text = text.items } }
@@ -70,10 +85,7 @@ impl<'a> Made<'a> {
         ensures { IfOk result (λ made. made ≡ record { puts = record { name = name.now; bytes = bytes.items } ∷ []; text = [] }) }
     {
         let mut puts = Vec::new(alloc);
-        puts.push(Put {
-            name: name.text(),
-            bytes,
-        })?;
+        puts.push(Put::new(name, bytes))?;
         Ok(Made {
             puts,
             text: Vec::new(alloc),

@@ -2,11 +2,12 @@
 
 use std::alloc::{AllocError, Global};
 use std::thread::Threads;
-use tm_io::{MemShelf, MemSink, Open};
+use tm_io::{Gate, MemShelf, MemSink, Open};
+use tm_irq::Bench;
 use tm_prog::{Status, tm};
 
 /// The words of a call.
-pub fn words(alloc: Global, words: &[&str]) -> Result<Vec<String>, AllocError> {
+fn words(alloc: Global, words: &[&str]) -> Result<Vec<String>, AllocError> {
     let mut all = Vec::new(alloc);
     for word in words {
         all.push(String::from_str(alloc, word)?)?;
@@ -27,6 +28,31 @@ pub fn shelf(
     Ok(shelf)
 }
 
+/// A call with these words, at a new bench of eight devices.
+pub fn call(
+    rt: &(impl Threads + Sync),
+    alloc: Global,
+    asked: &[&str],
+    shelf: &mut MemShelf,
+    sink: &mut MemSink,
+) -> Result<Status, AllocError> {
+    call_past(rt, alloc, asked, shelf, sink, &Open)
+}
+
+/// The same, with threads that wait at a gate.
+pub fn call_past<G: Gate>(
+    rt: &(impl Threads + Sync),
+    alloc: Global,
+    asked: &[&str],
+    shelf: &mut MemShelf,
+    sink: &mut MemSink,
+    gate: &G,
+) -> Result<Status, AllocError> {
+    let words = words(alloc, asked)?;
+    let mut bench = Bench::new(alloc, 8)?;
+    Ok(tm(rt, alloc, &words, shelf, sink, &mut bench, gate))
+}
+
 /// `trace i p` on the shelf, into the sink.
 pub fn trace(
     rt: &(impl Threads + Sync),
@@ -34,12 +60,5 @@ pub fn trace(
     shelf: &mut MemShelf,
     sink: &mut MemSink,
 ) -> Result<Status, AllocError> {
-    Ok(tm(
-        rt,
-        alloc,
-        &words(alloc, &["trace", "i", "p"])?,
-        shelf,
-        sink,
-        &Open,
-    ))
+    call(rt, alloc, &["trace", "i", "p"], shelf, sink)
 }

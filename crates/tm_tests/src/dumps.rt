@@ -1,9 +1,9 @@
 //! The dump of the smallest run, and its points.
 
-use crate::calls::{shelf, words};
+use crate::calls::{call, shelf};
 use std::test::Fail;
-use tm_io::{MemSink, Open};
-use tm_prog::{Status, tm};
+use tm_io::MemSink;
+use tm_prog::Status;
 
 const IMAGE: &[u8] = b"tmi 1\ntask 0 basic 1 auto 0 1\ntext 0 00200893 00000073\n";
 
@@ -16,9 +16,14 @@ fn the_dump_of_a_run_is_put_and_its_points_are_listed(rt: HostRuntime) -> Result
     shelf.room("d", 508)?;
     let mut sink = MemSink::new(alloc, 64, &[])?;
     sink.room(6)?;
-    let record = words(alloc, &["record", "i", "p", "d"])?;
     assert_eq!(rt;
-        tm(&rt, alloc, &record, &mut shelf, &mut sink, &Open),
+        call(
+            &rt,
+            alloc,
+            &["record", "i", "p", "d"],
+            &mut shelf,
+            &mut sink
+        )?,
         Status::Ok
     );
     assert_eq!(rt; sink.bytes(), b"".as_slice());
@@ -29,9 +34,8 @@ fn the_dump_of_a_run_is_put_and_its_points_are_listed(rt: HostRuntime) -> Result
     // The first entry is from nobody, idle; the second from task 0, which ends.
     assert_eq!(rt; &dump[46..48], [0xff, 5].as_slice());
     assert_eq!(rt; &dump[81..83], [0, 2].as_slice());
-    let points = words(alloc, &["points", "i", "d"])?;
     assert_eq!(rt;
-        tm(&rt, alloc, &points, &mut shelf, &mut sink, &Open),
+        call(&rt, alloc, &["points", "i", "d"], &mut shelf, &mut sink)?,
         Status::Ok
     );
     assert_eq!(rt; sink.bytes(), b"0\n1\n2\n".as_slice());

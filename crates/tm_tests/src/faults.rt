@@ -1,10 +1,10 @@
 //! Refusals, and calls that are made to fail.
 
-use crate::calls::{shelf, trace, words};
+use crate::calls::{call, shelf, trace};
 use std::test::Fail;
 use tm_image::{ImageFault, PlanFault, Reason};
-use tm_io::{MemShelf, MemSink, Open};
-use tm_prog::{Status, tm};
+use tm_io::{MemShelf, MemSink};
+use tm_prog::Status;
 
 const IMAGE: &[u8] = b"tmi 1\ntask 0 basic 1 auto 0 1\ntext 0 00200893 00000073\n";
 
@@ -45,14 +45,7 @@ fn words_of_no_form_are_refused(rt: HostRuntime) -> Result<(), Fail> {
     for case in cases {
         let mut shelf = shelf(alloc, IMAGE, PLAN, &[])?;
         let mut sink = MemSink::new(alloc, 64, &[])?;
-        let status = tm(
-            &rt,
-            alloc,
-            &words(alloc, case)?,
-            &mut shelf,
-            &mut sink,
-            &Open,
-        );
+        let status = call(&rt, alloc, case, &mut shelf, &mut sink)?;
         assert_eq!(rt; status, Status::Words, "{case:?}");
         assert!(rt; sink.bytes().is_empty());
     }
@@ -182,9 +175,14 @@ fn a_put_that_fails_is_told_and_leaves_the_other_names(rt: HostRuntime) -> Resul
         let mut shelf = shelf(alloc, IMAGE, PLAN, calls)?;
         shelf.room("d", room)?;
         let mut sink = MemSink::new(alloc, 64, &[])?;
-        let words = words(alloc, &["record", "i", "p", "d"])?;
         assert_eq!(rt;
-            tm(&rt, alloc, &words, &mut shelf, &mut sink, &Open),
+            call(
+                &rt,
+                alloc,
+                &["record", "i", "p", "d"],
+                &mut shelf,
+                &mut sink
+            )?,
             wanted
         );
         assert_eq!(rt; shelf.content("i"), Some(IMAGE));
@@ -200,9 +198,14 @@ fn a_dump_may_take_the_place_of_a_file_that_was_read(rt: HostRuntime) -> Result<
     let mut shelf = shelf(alloc, IMAGE, PLAN, &[])?;
     shelf.room("i", 508)?;
     let mut sink = MemSink::new(alloc, 64, &[])?;
-    let words = words(alloc, &["record", "i", "p", "i"])?;
     assert_eq!(rt;
-        tm(&rt, alloc, &words, &mut shelf, &mut sink, &Open),
+        call(
+            &rt,
+            alloc,
+            &["record", "i", "p", "i"],
+            &mut shelf,
+            &mut sink
+        )?,
         Status::Ok
     );
     assert_eq!(rt; shelf.content("i").map(|bytes| bytes.len()), Some(508));

@@ -12,6 +12,10 @@ mod faults;
 #[cfg(test)]
 mod large_runs;
 #[cfg(test)]
+mod live;
+#[cfg(test)]
 mod statuses;
 #[cfg(test)]
 mod texts;
+#[cfg(test)]
+mod workers;

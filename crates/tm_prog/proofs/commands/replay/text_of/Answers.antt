@@ -1,4 +1,4 @@
-use Rattle.std.proofs.Common.{◌≡◌, ◌∙◌, ◌++◌, ap, arith, List, ℕ}
+use Rattle.std.proofs.Common.{◌∙◌, ◌++◌, ap, arith, List, ℕ}
 use Rattle.tm_spelling.specs.Story.{spelled}
 use Rattle.tm_text.specs.Views.{replay_story}
 use Rattle.tm_image.specs.Image.{shape_of}
