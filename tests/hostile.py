@@ -1,8 +1,9 @@
 #!/usr/bin/env python3
-"""Images, plans, dumps and words that nobody would write, given to the built program over real files. No model says
+"""Images, plans, plants, dumps and words that nobody would write, given to the built program over real files. No model says
 what is to come; what holds of every call is checked: it ends in time with a status and a line of docs/messages.md,
-prints nothing beside a line, changes no file but the dump that it puts, and does the same again. A run that is accepted
-is recorded, listed, and replayed from its points to the end of its own trace; a dump with any byte changed is refused.
+prints nothing beside a line, changes no file but those that it puts, and does the same again. A run that is accepted
+is recorded, listed, and replayed from its points to the end of its own trace, also one beside devices, by its tape; a
+dump with any byte changed is refused.
 
 Usage: hostile.py SEED MINUTES, by hand; or hostile.py SEED ROUND, with a round of the form rN, for one round again.
 A failure names its seed and round."""
@@ -39,8 +40,19 @@ NUMBERS = (
     "0 1 2 3 4 5 7 8 15 16 17 63 64 65 255 256 4095 16384 16385 65535 65536 65537 4294967295 4294967296 0x0 0xffff -1"
 ).split()
 WORDS = (
-    "trace record points replay make --from --from= --from=0 --workers --workers= --workers=2 --help --version -- - ="
+    "trace record live points replay make --from --from= --from=0 --workers --workers= --workers=2 --slices --slices=2 "
+    "--len= --len=3 --tape --tape=tape --help --version -- - ="
 ).split()
+PLANT = b"""tmplant 1
+device 0
+device 1
+set 0 0 7
+raise 0 1 20
+hold 1 1 50
+raise 1 0 3
+set 1 3 4294967295
+"""
+LIVE = ("live", "image", "plant", "dump", "--slices=20", "--len=10", "--tape=tape")
 MOST_INSTRUCTIONS, IN_TIME = 200_000, 120
 
 
@@ -72,9 +84,9 @@ class Case:
         elif ended.stdout or not re.fullmatch(LINES.get(ended.returncode, "").encode() + b"\n", ended.stderr):
             raise Wrong(told)
         after = self.files()
-        if words[:1] == ("record",) and ended.returncode == 0:
-            before.pop(words[3], None)
-            after.pop(words[3])
+        for name in put_by(words) if ended.returncode == 0 else ():
+            before.pop(name, None)
+            after.pop(name)
         if after != before:
             raise Wrong(f"{words}: other files")
         return ended.returncode, ended.stdout + ended.stderr
@@ -85,6 +97,13 @@ class Case:
         if first != second:
             raise Wrong(f"{words}: {first[1][:80]!r}, and then {second[1][:80]!r}")
         return first
+
+
+def put_by(words):
+    """The names under which a call puts that ends well."""
+    if words == LIVE:
+        return ("dump", "tape")
+    return words[3:4] if words[:1] == ("record",) else ()
 
 
 def seeds():
@@ -169,6 +188,26 @@ def play_texts(case, pairs):
         play_run(case, image, text)
 
 
+def play_plant(case, pairs):
+    """A changed plant beside an image. What is refused is refused again; the tape of what is accepted gives the same
+    dump, and the run goes on as any other."""
+    (image, other), plant = case.chance.choice(pairs), PLANT
+    for _ in range(case.chance.randrange(4)):
+        plant = changed_text(case.chance, plant, other)
+    for name, content in (("image", image), ("plant", plant), ("dump", b"old"), ("tape", b"old")):
+        write(os.path.join(case.folder, name), content)
+    status, text = case.call(*LIVE)
+    if status:
+        if case.call(*LIVE) != (status, text):
+            raise Wrong(f"live: {text}, and then another answer")
+        return
+    put = read(os.path.join(case.folder, "dump"))
+    recorded = case.call("record", "image", "tape", "dump")
+    if recorded[0] or read(os.path.join(case.folder, "dump")) != put:
+        raise Wrong(f"the tape gives another dump: {recorded}")
+    play_run(case, image, case.call("trace", "image", "tape")[1])
+
+
 def play_run(case, image, text):
     """The points are those that the dump has all of, and the text from each is the end of the trace."""
     dump = read(os.path.join(case.folder, "dump"))
@@ -215,7 +254,8 @@ def play(seed, number, pairs):
     with tempfile.TemporaryDirectory() as folder:
         case = Case(seed, number, folder)
         try:
-            (play_words if case.chance.random() < 0.2 else play_texts)(case, pairs)
+            chance = case.chance.random()
+            (play_words if chance < 0.2 else play_plant if chance < 0.4 else play_texts)(case, pairs)
         except (Wrong, OSError, struct.error, LookupError, ValueError) as wrong:
             return [f"seed {seed}, round {number}: {wrong!r}"]
     return []
