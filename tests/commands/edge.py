@@ -16,9 +16,17 @@ NOBODY = 65534
 READ_FAULT, WRITE_FAULT = (3, b"tm: read fault\n"), (9, b"tm: write fault\n")
 
 
-def printing(dump):
+def live(folder, dump="live.dump"):
+    """A call of `live` without devices; a dump without a path stands in the folder."""
+    plant = os.path.join(folder, "none.tmplant")
+    write(plant, b"tmplant 1\n")
+    return ["live", IMAGE, plant, os.path.join(folder, dump), "--slices=5", "--len=9"]
+
+
+def printing(folder, dump):
     """A call of each command that prints."""
     return [
+        live(folder, "/dev/null"),
         ["trace", IMAGE, PLAN],
         ["points", IMAGE, dump],
         ["replay", IMAGE, dump, "--from", "0"],
@@ -95,7 +103,7 @@ def check_files(folder, dump):
     bad = [folder, f"{folder}/missing/file", f"{IMAGE}/below", "n" * 255, "n" * 256, "n" * 4096, "/" + "d/" * 2100]
     user = {"user": NOBODY} if os.geteuid() == 0 else {}
     calls = [["trace", IMAGE, PLAN], ["record", IMAGE, PLAN, os.path.join(folder, "no.dump")]]
-    calls += [["points", IMAGE, dump], ["replay", IMAGE, dump, "--from", "0"]]
+    calls += [["points", IMAGE, dump], ["replay", IMAGE, dump, "--from", "0"], live(folder)]
     for words in calls:
         for place in (1, 2):
             for name in bad:
@@ -124,7 +132,7 @@ def check_fifo(words, place, fifo):
     writer.start()
     check(f"{words[0]}: a FIFO as file {place}", [*words[:place], fifo, *words[place + 1 :]], 0, text, "")
     writer.join(20)
-    if words[0] == "record" and os.path.exists(words[3]):
+    if words[0] in ("record", "live") and os.path.exists(words[3]):
         os.remove(words[3])
 
 
@@ -133,7 +141,12 @@ def check_names(folder, dump):
     before = sorted(os.listdir(folder))
     for name in (".", "..", f"{folder}/", f"{folder}/new/", f"{IMAGE}/below", "n" * 4096, "d/" * 2047 + "d"):
         check(f"record as {name[:20]}", ["record", IMAGE, PLAN, name], 9, b"", "tm: write fault", folder)
-    equal("record: files", sorted(os.listdir(folder)), before)
+        words = [*live(folder)[:3], name, "--slices=5", "--len=9", "--tape=tape"]
+        check(f"live as {name[:20]}", words, 9, b"", "tm: write fault", folder)
+    equal("record, live: files", sorted(os.listdir(folder)), before)
+    for name in (".", f"{folder}/new/", "n" * 4096):
+        check(f"the tape as {name[:20]}", [*live(folder), "--tape", name], 9, b"", "tm: write fault", folder)
+    equal("the dump before the tape", sorted(os.listdir(folder)), sorted([*before, "live.dump"]))
     for name in ("two\nlines", "a word", "\u00e9\U0001f600", "x=--from"):
         check(f"record as {name!r}", ["record", IMAGE, PLAN, name], 0, b"", "", folder)
         equal(f"record as {name!r}: dump", read(os.path.join(folder, name)), read(dump))
@@ -144,7 +157,7 @@ def main():
         os.chmod(folder, 0o755)
         dump = os.path.join(folder, "cell.dump")
         check("cell recorded", ["record", IMAGE, PLAN, dump], 0, b"", "")
-        for words in printing(dump):
+        for words in printing(folder, dump):
             check_outputs(folder, words)
         check_closed(folder, dump)
         check_files(folder, dump)
