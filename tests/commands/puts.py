@@ -1,5 +1,5 @@
 """What becomes of a name under which a file is put: whatever happens, it has its old content or the whole new one.
-The file that is put is the dump of `tm record`."""
+The file that is put is the dump of `tm record`; the dump and the tape of `tm live` where it is killed."""
 import os
 import random
 import resource
@@ -102,6 +102,34 @@ def check_kills(folder, runs):
             os.remove(os.path.join(folder, name))
     expect("killed", wrong)
     expect("killed in the midst", [] if in_the_midst else ["no kill came while a dump was being written"])
+
+
+def check_live_kills(folder):
+    """A `live` that is killed leaves the old dump or the whole new one, and the same of the tape, which is new only where
+    the dump is."""
+    write(os.path.join(folder, "none.tmplant"), b"tmplant 1\n")
+    names = [os.path.join(folder, name) for name in ("live.dump", "live.tape")]
+    words = ["live", "long.tmi", "none.tmplant", "live.dump", "--slices=20000", "--len=1", "--tape=live.tape"]
+    begin = time.monotonic()
+    subprocess.run([program, *words], cwd=folder, check=True, stdout=subprocess.DEVNULL)
+    whole_run = time.monotonic() - begin
+    new, wrong, chance = [read(name) for name in names], [], random.Random(2)
+    for place in range(40):
+        for name in names:
+            write(name, b"old")
+        process = start(words, folder)
+        if place % 2:
+            wait_for(lambda: beside(folder), process)
+            time.sleep(chance.uniform(0, whole_run / 4))
+        else:
+            time.sleep(chance.uniform(0, whole_run))
+        process.kill()
+        process.communicate()
+        if [read(name) for name in names] not in ([b"old", b"old"], [new[0], b"old"], new):
+            wrong.append(f"kill {place}")
+        for name in beside(folder):
+            os.remove(os.path.join(folder, name))
+    expect("live killed", wrong)
 
 
 def check_two_at_once(folder, runs):
@@ -240,6 +268,7 @@ def main():
         os.chmod(folder, 0o755)
         runs = make_runs(folder)
         check_kills(folder, runs)
+        check_live_kills(folder)
         check_two_at_once(folder, runs)
         check_full_disk(folder, runs)
         check_small_file_system(folder, runs)
