@@ -1,18 +1,18 @@
 -- What is read to its end is an image.
-use Rattle.std.proofs.Common.{◌≡◌, ℕ, ◌<◌, Bool, true, false, ◌||◌, List, length, Ok, Err, refl, subst, arith, eqb, if◌then◌else◌}
+use Rattle.std.proofs.Common.{◌≡◌, ℕ, ◌<◌, Bool, true, false, ◌||◌, List, length, map, Ok, Err, refl, sym, subst, arith, eqb, set, if◌then◌else◌}
 use Rattle.std.specs.List.{list_any}
 use Rattle.std.specs.Prelude.{codes}
 use Rattle.std.proofs.lemmas.Bool.{eqb-false}
 use Rattle.std.proofs.lemmas.Bool.Decides.{nat_tests}
-use Rattle.std.proofs.lemmas.List.{length-map}
-use Rattle.std.proofs.lemmas.List.Elements.{All-map, All-weaker}
+use Rattle.std.proofs.lemmas.List.{length-map, length-set, map-set}
+use Rattle.std.proofs.lemmas.List.Elements.{All-map, All-set, All-weaker}
 use Rattle.tm_marker.specs.Shape.{IsWordCount, IsShape}
 use Rattle.tm_lines.specs.declared.fault.Reason.TheVariants.{Range, Missing}
 use Rattle.tm_lines.specs.Steps.{◌>>=◌, on_line}
 use Rattle.tm_lines.specs.Lines.{pieces, from_header, lines_on}
 use Rattle.tm_image.specs.Load.{Load, has_no_text, is_outside}
 use Rattle.tm_image.specs.Draft.{Draft, empty_draft, image_line, whole}
-use Rattle.tm_image.specs.Image.{ImageView, IsLoad, IsImage, shape_of, draft_of, image_with}
+use Rattle.tm_image.specs.Image.{ImageView, IsLoad, IsImage, replaced, shape_of, draft_of, image_with}
 use Rattle.tm_lines.proofs.Steps.{bound, on_line_gave, both_not}
 use Rattle.tm_lines.proofs.Keeping.{lines_keep}
 use Rattle.tm_image.proofs.Kept.{IsLoadSoFar, IsSoFar, any_false, line_keeps, none_so_far}
@@ -94,3 +94,21 @@ shape_is image is =
           All-map IsWordCount (λ load. length load.words) image.loads
           (All-weaker IsLoad (λ load. IsWordCount (length load.words)) (λ load l. record { some = l.some_words; few = l.few_words }) image.loads is.each);
     }
+
+-- an image of whose tasks one is replaced is an image
+pub replaced_is : (image : ImageView) (task : ℕ) (load : Load) → IsImage image → IsLoad load → IsImage (replaced image task load)
+replaced_is image task load is sound = record {
+  digest = is.digest;
+  spec = is.spec;
+  lines = is.lines;
+  loads = rw length-set is.loads;
+  each = All-set IsLoad _ _ _ sound is.each;
+  caps = is.caps;
+}
+
+-- how many data words each task has, one of which is replaced
+pub counts_set : (counts : List ℕ) (loads : List Load) (task count : ℕ) (load : Load)
+    → counts ≡ map (λ load. length load.words) loads
+    → count ≡ length load.words
+    → set counts task count ≡ map (λ load. length load.words) (set loads task load)
+counts_set counts loads task count load is same = rw (is, same) (sym (map-set (λ load. length load.words) loads task load))

@@ -1,5 +1,5 @@
 -- What an image is, and which image a text is.
-use Rattle.std.specs.Prelude.{◌≡◌, ℕ, ◌*◌, ◌%◌, ◌<◌, ◌≤◌, List, [], length, map, slice_get, codes, unwrap_or, All, Result, Ok}
+use Rattle.std.specs.Prelude.{◌≡◌, ℕ, ◌*◌, ◌%◌, ◌<◌, ◌≤◌, List, [], length, map, slice_get, slice_set, codes, unwrap_or, All, Result, Ok}
 use Rattle.sha2.specs.Sha256.{sha256}
 use Rattle.tm_kernel.specs.declared.spec.KernelSpec.{KernelSpec}
 use Rattle.tm_kernel.specs.Spec.{IsKernelSpec}
@@ -37,6 +37,10 @@ text_of image task = (load_of image task).text
 -- the task's data words at boot
 abbrev pub words_of : ImageView → ℕ → List ℕ
 words_of image task = (load_of image task).words
+
+-- the image, one task of which is loaded from something else; its digest stays
+abbrev pub replaced : ImageView → ℕ → Load → ImageView
+replaced image task load = record image { loads = slice_set image.loads task load }
 
 -- what the image says of the buffers of its runs
 abbrev pub shape_of : ImageView → Shape

@@ -1,6 +1,6 @@
 //! An image as far as its lines have been read.
 
-ghost use Rattle.std.specs.Prelude.{◌≡◌, ◌<◌, ◌≤◌, All, false, length, map, slice_get, unwrap_or, IfOk};
+ghost use Rattle.std.specs.Prelude.{◌≡◌, ◌<◌, ◌≤◌, All, false, length, map, slice_get, slice_set, unwrap_or, IfOk};
 ghost use Rattle.std.specs.List.{list_any};
 ghost use Rattle.tm_lines.specs.Steps.{Answers};
 ghost use Rattle.tm_image.specs.Load.{has_no_text, is_outside};
@@ -103,6 +103,31 @@ fn is_given(action: Action) -> bool
     !matches!(action, Action::Nothing)
 }
 
+/// A copy of what a kernel is made of.
+fn copy_of_spec(alloc: Global, spec: &KernelSpec) -> Result<KernelSpec, AllocError>
+    ensures { IfOk result (λ copy. copy ≡ spec.now) }
+{
+    Ok(KernelSpec {
+        tasks: Items::from(Vec::from_slice(alloc, spec.tasks.as_slice())?),
+        users: Items::from(Vec::from_slice(alloc, spec.users.as_slice())?),
+        alarms: Items::from(Vec::from_slice(alloc, spec.alarms.as_slice())?),
+        boxes: Items::from(Vec::from_slice(alloc, spec.boxes.as_slice())?),
+        lines: spec.lines,
+    })
+}
+
+/// A copy of what some tasks are loaded from.
+fn copy_of_loads(alloc: Global, loads: &[Loaded]) -> Result<Vec<Loaded>, AllocError>
+    ensures { IfOk result (λ copy. copy.items ≡ loads.now) }
+{
+    let mut copy = Vec::new(alloc);
+    for load in loads {
+        let one = load.copy(alloc)?;
+        copy.push(one)?;
+    }
+    Ok(copy)
+}
+
 impl Reading {
     /// No line has been read.
     pub(crate) fn new(alloc: Global) -> Self
@@ -119,6 +144,25 @@ impl Reading {
             loads: Vec::new(alloc),
             rings: Rings::NONE,
         }
+    }
+
+    /// A copy.
+    pub(crate) fn copy(&self, alloc: Global) -> Result<Self, AllocError>
+        ensures { IfOk result (λ copy. copy ≡ self.now) }
+    {
+        Ok(Reading {
+            spec: copy_of_spec(alloc, &self.spec)?,
+            loads: copy_of_loads(alloc, self.loads.as_slice())?,
+            rings: self.rings,
+        })
+    }
+
+    /// Loads a task that there is from something else.
+    pub(crate) fn set_load(&mut self, task: usize, load: Loaded)
+        requires { task < length self.old.loads }
+        ensures { self.new ≡ record self.old { loads = slice_set self.old.loads task load } }
+    {
+        self.loads[task] = load;
     }
 
     /// What the kernel is made of.

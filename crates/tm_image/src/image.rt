@@ -4,11 +4,12 @@ ghost use Rattle.std.specs.Prelude.{◌≡◌, ◌<◌, ◌≤◌, ◌-◌, ◌^
 ghost use Rattle.tm_marker.specs.Shape.{IsShape};
 ghost use Rattle.tm_lines.specs.Steps.{Gives};
 ghost use Rattle.tm_image.specs.Draft.{Draft};
-ghost use Rattle.tm_image.specs.Image.{load_of, entry_of, text_of, words_of, shape_of, IsLoad, IsImage, image_digest, draft_of, image_of};
+ghost use Rattle.tm_image.specs.Image.{load_of, entry_of, text_of, words_of, shape_of, replaced, IsLoad, IsImage, image_digest, draft_of, image_of};
 
 use crate::draft::Reading;
+use crate::load::Loaded;
 use sha2::{Digest, Sha256};
-use std::alloc::Global;
+use std::alloc::{AllocError, Global};
 use std::marker::Model;
 use tm_kernel::KernelSpec;
 use tm_lines::{Fault, below_header, take_lines};
@@ -63,6 +64,28 @@ impl Image {
         ensures { IsImage self.now }
     {
         let _value = &self.parts;
+    }
+
+    /// A copy.
+    pub fn copy(&self, alloc: Global) -> Result<Image, AllocError>
+        ensures copied { IfOk result (λ copy. copy ≡ self.now) }
+    {
+        Ok(Image {
+            parts: self.parts.copy(alloc)?,
+            shape: self.shape.copied(alloc)?,
+        })
+    }
+
+    /// Loads a task from something else, with as many data words as that has. All else stays, the digest
+    /// too: it is that of the file that was read. It takes no memory.
+    pub fn replace(&mut self, task: u8, from: Loaded)
+        requires there { task < length self.old.loads }
+        requires sound { IsLoad from }
+        ensures { self.new ≡ replaced self.old task from }
+    {
+        let task = task as usize;
+        self.shape.words.set(task, from.words().len() as u32);
+        self.parts.set_load(task, from);
     }
 
     /// The number of tasks, 1 to 16.

@@ -2,6 +2,7 @@
 //!
 //! [`read_image`] reads an [`Image`], and [`read_plan`] a [`Plan`]; a [`Fault`] says which line of a
 //! text was refused first, and why. How lines, tokens and numbers are spelled is said in [`tm_lines`].
+//! A task of an image can be loaded from something else that is [`Loaded`].
 //!
 //! ```text
 //! tmi 1                                     tmplan 1
@@ -27,5 +28,6 @@ mod said;
 pub use examples::{image_examples, image_limits, plan_examples, plan_limits};
 pub use image::{Image, ImageFault, read_image};
 pub use laws::{faults_are_never_memory, image_faults_are_first, plan_faults_are_first};
+pub use load::Loaded;
 pub use plan::{Plan, PlanFault, read_plan};
 pub use tm_lines::{Fault, Reason};

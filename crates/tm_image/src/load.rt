@@ -1,6 +1,7 @@
 //! What one task is loaded from.
 
-ghost use Rattle.std.specs.Prelude.{◌≡◌, ◌<◌, ◌^◌, [], length, replicate, Option, Some, IfOk};
+ghost use Rattle.std.specs.Prelude.{◌≡◌, ◌<◌, ◌≤◌, ◌^◌, [], length, replicate, Option, Some, IfOk};
+ghost use Rattle.tm_marker.specs.declared.shape.TheConstants.{MOST_WORDS};
 ghost use Rattle.tm_lines.specs.Steps.{Answers};
 ghost use Rattle.tm_image.specs.Load.{Load, has_no_text, is_outside, more_text, with_text, new_data, with_data};
 
@@ -11,9 +12,10 @@ use tm_lines::Reason;
 use tm_marker::{Items, MOST_WORDS};
 use tm_rv::Code;
 
-/// A task's entry, in bytes, its text, and its data words at boot.
+/// What a task is loaded from: its entry, in bytes, its text, and its data words at boot, each of at most
+/// [`MOST_WORDS`] words.
 #[derive(Debug, Drop)]
-pub(crate) struct Loaded {
+pub struct Loaded {
     entry: u32,
     text: Code,
     words: Vec<u32>,
@@ -32,6 +34,28 @@ impl Model for Loaded {
 }
 
 impl Loaded {
+    /// A task of this entry, text and data words. It takes no memory.
+    pub fn of(entry: u32, text: Code, words: Vec<u32>) -> Self
+        requires short { length text ≤ MOST_WORDS }
+        requires few { length words.items ≤ MOST_WORDS }
+        ensures { result ≡ record { entry = entry; text = text; words = words.items } }
+    {
+        Loaded { entry, text, words }
+    }
+
+    /// A copy.
+    pub(crate) fn copy(&self, alloc: Global) -> Result<Self, AllocError>
+        ensures { IfOk result (λ copy. copy ≡ self.now) }
+    {
+        let mut text = Code::new(alloc);
+        text.extend(self.text.words())?;
+        Ok(Loaded {
+            entry: self.entry,
+            text,
+            words: Vec::from_slice(alloc, self.words.as_slice())?,
+        })
+    }
+
     /// A task without text, whose data words are 0.
     pub(crate) fn new(alloc: Global, entry: u32, words: u32) -> Result<Self, AllocError>
         ensures { IfOk result (λ load. load ≡ record { entry = entry; text = []; words = replicate words 0 }) }
