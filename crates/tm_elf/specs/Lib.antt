@@ -1,0 +1,5 @@
+pub mod Elf
+pub mod Faults
+pub mod Fields
+pub mod Laws
+pub mod Loads
