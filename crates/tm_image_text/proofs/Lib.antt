@@ -1,0 +1,9 @@
+pub mod Tokens
+pub mod Spelled
+pub mod Users
+pub mod Used
+pub mod Makes
+pub mod Parts
+pub mod Back
+pub mod Widths
+pub mod Written
