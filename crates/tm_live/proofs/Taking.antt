@@ -11,14 +11,14 @@ use Rattle.tm_live.specs.Tape.{TapeView, taped, slice_of, tape_of}
 use Rattle.tm_live.specs.Kernel.{with_slice, tape_between, GoesOnBy, StaysSeated, TookSlices}
 
 -- a list that didn't go on
-added_none : {X : Type 0} (xs : List X) → added xs xs ≡ []
+pub added_none : {X : Type 0} (xs : List X) → added xs xs ≡ []
 added_none xs = drop_of_length-le xs (omega arith)
 
 pub grew_none : {X : Type 0} (xs : List X) → GrewBy 0 xs xs
 grew_none xs = record { kept = sym (ap (λ ys. xs ++ ys) (added_none xs) ∙ append-nil xs); size = ap length (added_none xs) }
 
 -- what had been added, and one item more
-added_more : {X : Type 0} (count : ℕ) (before after : List X) (x : X) → GrewBy count before after
+pub added_more : {X : Type 0} (count : ℕ) (before after : List X) (x : X) → GrewBy count before after
     → added before (after ++ x ∷ []) ≡ added before after ++ x ∷ []
 added_more count before after x grew =
     let short : length before ≤ length after = omega (arith, ap length grew.kept, length-append before (added before after)) in
@@ -38,7 +38,7 @@ zip_more (x' ∷ xs) [] x y same = absurd (omega (arith, same))
 zip_more (x' ∷ xs) (y' ∷ ys) x y same = ap (λ ps. (x', y') ∷ ps) (zip_more xs ys x y (omega (arith, same)))
 
 -- the tape has one slice more
-tape_more : (takes : List ℕ) (latches : List (List ℕ)) (len : ℕ) (slice : Slice) → slice.length ≡ len → length takes ≡ length latches
+pub tape_more : (takes : List ℕ) (latches : List (List ℕ)) (len : ℕ) (slice : Slice) → slice.length ≡ len → length takes ≡ length latches
     → tape_of (takes ++ slice.mask ∷ []) (latches ++ slice.ports ∷ []) len ≡ tape_of takes latches len ++ slice ∷ []
 tape_more takes latches len slice is same =
     ap (map (slice_of len)) (zip_more takes latches slice.mask slice.ports same)

@@ -15,8 +15,9 @@ use tm_plant::{Act, Plant};
 /// How many devices a bench has at most.
 const MOST_DEVICES: usize = 8;
 
-/// Each device does what the plant gives it, in a thread of its own.
-pub(crate) fn play_all<R: Threads + Sync, G: Gate>(
+/// Each device of a plant does what the plant gives it, in a thread of its own, and tells the gate its number
+/// before each raise, store and look. The devices that the plant does not name do nothing. It takes no memory.
+pub fn play_all<R: Threads + Sync, G: Gate>(
     rt: &R,
     devices: &mut [DeviceSeat],
     plant: &Plant,

@@ -34,8 +34,9 @@ pub(crate) fn take_slices<G: Gate>(
     }
 }
 
-/// A slice with the lines of one take and the ports of the latch after it.
-fn take_slice(kernel: &mut KernelSeat, len: u32) -> Slice
+/// A slice of so many instructions, at most 1,048,576, with the lines of one take and the port words of the latch
+/// after it. It takes no memory.
+pub fn take_slice(kernel: &mut KernelSeat, len: u32) -> Slice
     requires few { length kernel.old.takes < 2 ^ 47 }
     requires short { len ≤ 1048576 }
     ensures length { result.length ≡ len }
