@@ -1,0 +1,11 @@
+-- What the dump of a run is.
+use Rattle.std.specs.Prelude.{ℕ, List}
+use Rattle.tm_marker.specs.declared.entries.Slice.{Slice}
+use Rattle.tm_image.specs.Image.{ImageView}
+use Rattle.tm_system.specs.Run.{run}
+use Rattle.tm_system.specs.WindowOf.{window_of}
+use Rattle.tm_dump.specs.Dump.{dump_bytes}
+
+-- the dump of the window of the whole run
+abbrev pub dump_of_run : ImageView → List Slice → List ℕ
+dump_of_run image script = dump_bytes (window_of image (run image script))
