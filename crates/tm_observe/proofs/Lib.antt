@@ -1,0 +1,4 @@
+pub mod Onward
+pub mod Seeing
+pub mod Settling
+pub mod Ended

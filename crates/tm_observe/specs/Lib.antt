@@ -1,0 +1,3 @@
+pub mod Lookers
+pub mod Published
+pub mod Versions
