@@ -1,4 +1,6 @@
 pub mod Parsing
 pub mod Refusing
 pub mod Ranges
+pub mod WatchRanges
 pub mod Driving
+pub mod Watching

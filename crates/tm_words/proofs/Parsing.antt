@@ -3,7 +3,7 @@ use Rattle.std.proofs.Common.{◌≡◌, ◌∙◌, ℕ, true, List, Option, Som
 use Rattle.std.specs.Prelude.{IsSome, codes}
 use Rattle.clap.specs.Words.{App, first_of, matches_of, takes}
 use Rattle.clap.proofs.OnLiterals.{clap_on_literals}
-use Rattle.tm_words.specs.Parsers.{trace_parser, trace_words, record_parser, record_words, live_parser, live_words, points_parser, points_words, replay_parser, replay_words, make_parser, make_words}
+use Rattle.tm_words.specs.Parsers.{trace_parser, trace_words, record_parser, record_words, live_parser, live_words, points_parser, points_words, replay_parser, replay_words, make_parser, make_words, load_parser, load_words}
 
 -- what the parser tells of a text, where it is the parser that was meant
 pub told : {app wanted : App} {value : List ℕ} {found : Option (List ℕ)} (words : List (List ℕ)) (name : List ℕ) → app ≡ wanted →
@@ -119,3 +119,23 @@ make_taken number = refl
 pub make_number : (number : List ℕ) → first_of (codes "number") (matches_of make_parser (make_words number)) ≡ Some number
 unfolding clap_on_literals
 make_number number = refl
+
+pub load_taken : (image task executable new : List ℕ) → takes load_parser (load_words image task executable new) ≡ true
+unfolding clap_on_literals
+load_taken image task executable new = refl
+
+pub load_image : (image task executable new : List ℕ) → first_of (codes "image") (matches_of load_parser (load_words image task executable new)) ≡ Some image
+unfolding clap_on_literals
+load_image image task executable new = refl
+
+pub load_task : (image task executable new : List ℕ) → first_of (codes "task") (matches_of load_parser (load_words image task executable new)) ≡ Some task
+unfolding clap_on_literals
+load_task image task executable new = refl
+
+pub load_executable : (image task executable new : List ℕ) → first_of (codes "executable") (matches_of load_parser (load_words image task executable new)) ≡ Some executable
+unfolding clap_on_literals
+load_executable image task executable new = refl
+
+pub load_new : (image task executable new : List ℕ) → first_of (codes "new") (matches_of load_parser (load_words image task executable new)) ≡ Some new
+unfolding clap_on_literals
+load_new image task executable new = refl

@@ -6,8 +6,8 @@ use Rattle.std.proofs.lemmas.Bool.Decides.{nat_tests}
 use Rattle.std.proofs.lemmas.Slice.Eq.{bytes_eq-Decides}
 use Rattle.tm_words.specs.declared.form.Form.{Form}
 use Rattle.tm_words.specs.declared.form.Form.TheVariants as form
-use Rattle.tm_words.specs.declared.command.Command.TheVariants.{Live, Replay, Make}
-use Rattle.tm_words.specs.Numbers.{number_in, digits_value, is_digit}
+use Rattle.tm_words.specs.declared.command.Command.TheVariants.{Live, Replay, Make, Load}
+use Rattle.tm_words.specs.Numbers.{number_in, task_in, digits_value, is_digit}
 use Rattle.tm_words.specs.Forms.{asked_by}
 use Rattle.tm_words.specs.Command.{is_named, IsInRange}
 
@@ -27,6 +27,21 @@ number_in-range least most text =
 made : (number : Option ℕ) → IfSome (option_map Make number) IsInRange
 made None = tt
 made (Some number) = tt
+
+-- a task is one of 0 to 15
+pub task_in-range : (text : List ℕ) → IfSome (task_in text) (λ n. n ≤ 15)
+unfolding task_in
+task_in-range text = go (nat_le (length text) 2) (number_in 0 15 text) (number_in-range 0 15 text)
+  where
+    go : (short : Bool) (number : Option ℕ) → IfSome number (λ n. (0 ≤ n) × (n ≤ 15)) → IfSome (if short then number else None) (λ n. n ≤ 15)
+    go false number range = tt
+    go true None range = tt
+    go true (Some number) range = range.1
+
+loaded : (image executable new : List ℕ) (task : Option ℕ) → IfSome task (λ n. n ≤ 15) →
+    IfSome (option_map (λ number. Load image number executable new) task) IsInRange
+loaded image executable new None range = tt
+loaded image executable new (Some task) range = range
 
 replayed : (image dump : List ℕ) (point workers : Option ℕ) → IfSome workers (λ n. (1 ≤ n) × (n ≤ 16)) →
     IfSome (option_and_then (λ p. option_map (Replay image dump p) workers) point) IsInRange
@@ -65,3 +80,4 @@ in_range (form.Points image dump) = tt
 in_range (form.Replay image dump from workers) =
     replayed image.now dump.now (number_in 0 (2 ^ 64 - 1) from.now) (number_in 1 16 workers.now) (number_in-range 1 16 workers.now)
 in_range (form.Make number) = made (number_in 0 (2 ^ 32 - 1) number.now)
+in_range (form.Load image task executable new) = loaded image.now executable.now new.now (task_in task.now) (task_in-range task.now)

@@ -16,3 +16,7 @@ number_in least most digits =
     if nat_le 1 (length digits) && nat_le (length digits) 20 && list_all is_digit digits
     && nat_le least (digits_value digits) && nat_le (digits_value digits) most
     then Some (digits_value digits) else None
+
+-- the number of a task, 0 to 15, in one or two decimal digits
+unfoldable pub task_in : List ℕ → Option ℕ
+task_in digits = if nat_le (length digits) 2 then number_in 0 15 digits else None

@@ -4,6 +4,8 @@ use Rattle.std.specs.Prelude.{◌≡◌, true, ℕ, List, [], ◌∷◌, ◌++�
 use Rattle.tm_words.specs.declared.kind.Kind.TheVariants as kind
 use Rattle.tm_words.specs.declared.command.Command.{Command}
 use Rattle.tm_words.specs.Command.{asked}
+use Rattle.tm_words.specs.declared.command.WatchCommand.{WatchCommand}
+use Rattle.tm_words.specs.Watch.{watch_asked}
 use Rattle.clap.specs.Words.{App, Rule, first_of, matches_of, takes, new_app, new_rule, with_rule}
 
 -- an option that takes a text
@@ -76,3 +78,45 @@ make_parser = with_rule (new_app (codes "make")) (new_rule (codes "number"))
 
 abbrev pub make_words : List ℕ → List (List ℕ)
 make_words number = codes "make" ∷ codes "--" ∷ number ∷ []
+
+abbrev pub load_parser : App
+load_parser =
+    with_rule (with_rule (with_rule (with_rule (new_app (codes "load")) (new_rule (codes "image"))) (new_rule (codes "task")))
+    (new_rule (codes "executable"))) (new_rule (codes "new"))
+
+abbrev pub load_words : List ℕ → List ℕ → List ℕ → List ℕ → List (List ℕ)
+load_words image task executable new = codes "load" ∷ codes "--" ∷ image ∷ task ∷ executable ∷ new ∷ []
+
+abbrev pub watch_numbers : App
+watch_numbers =
+    with_rule (with_rule (with_rule (with_rule (new_app (codes "watch")) (option_rule (codes "slices"))) (option_rule (codes "len")))
+    (option_rule (codes "observers"))) (option_rule (codes "looks"))
+
+abbrev pub watch_parser : App
+watch_parser = with_rule (with_rule (with_rule watch_numbers (new_rule (codes "image"))) (new_rule (codes "plant"))) (new_rule (codes "prefix"))
+
+abbrev pub watch_words : List ℕ → List ℕ → List ℕ → List ℕ → List ℕ → List ℕ → List ℕ → List (List ℕ)
+watch_words image plant prefix slices len observers looks =
+    codes "watch" ∷ (codes "--slices=" ++ slices) ∷ (codes "--len=" ++ len) ∷ (codes "--observers=" ++ observers) ∷ (codes "--looks=" ++ looks)
+    ∷ codes "--" ∷ image ∷ plant ∷ prefix ∷ []
+
+-- what the parser tells of each text, by its name
+abbrev pub watch_text : List (List ℕ) → List ℕ → Option (List ℕ)
+watch_text words name = first_of name (matches_of watch_parser words)
+
+-- words that the parser takes, and of which it tells each text
+pub record IsWatch (words : List (List ℕ)) : Type 0 where
+  pub taken : takes watch_parser words ≡ true
+  pub image : IsSome (watch_text words (codes "image"))
+  pub plant : IsSome (watch_text words (codes "plant"))
+  pub prefix : IsSome (watch_text words (codes "prefix"))
+  pub slices : IsSome (watch_text words (codes "slices"))
+  pub len : IsSome (watch_text words (codes "len"))
+  pub observers : IsSome (watch_text words (codes "observers"))
+  pub looks : IsSome (watch_text words (codes "looks"))
+
+-- what these texts ask for
+abbrev pub watch_asked_in : List (List ℕ) → Option WatchCommand
+watch_asked_in words =
+    watch_asked (unwrap_or (watch_text words (codes "image")) [] ∷ unwrap_or (watch_text words (codes "plant")) [] ∷ unwrap_or (watch_text words (codes "prefix")) [] ∷ [])
+    (watch_text words (codes "slices") ∷ watch_text words (codes "len") ∷ watch_text words (codes "observers") ∷ watch_text words (codes "looks") ∷ [])

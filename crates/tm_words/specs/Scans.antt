@@ -20,7 +20,7 @@ onto scan words = option_map (joined scan.parts) (parted (awaited scan.waiting w
 
 -- more options or names than any command has
 abbrev pub IsSurplus : Parts → Type 0
-IsSurplus parts = (3 < length parts.given) ⊎ (3 < length parts.names)
+IsSurplus parts = (4 < length parts.given) ⊎ (4 < length parts.names)
 
 -- no parts, or more than any command has
 abbrev pub IsRefused : Option Parts → Type 0

@@ -42,4 +42,25 @@ pub enum Command {
     Make {
         number: u32,
     },
+    /// The text of an image, put under a new name, whose task 0 to 15 comes from an executable; the new name may be that
+    /// of the image or of the executable.
+    Load {
+        image: Name,
+        task: u8,
+        executable: Name,
+        new: Name,
+    },
+}
+
+/// A run of 0 to 1,048,576 slices, each of 0 to 1,048,576 instructions, beside the devices of a plant and 1 to 4
+/// observers, each of which looks 1 to 1,000 times: the dumps that they saw are put, under names with one prefix.
+#[derive(Drop)]
+pub struct WatchCommand {
+    pub image: Name,
+    pub plant: Name,
+    pub prefix: Name,
+    pub slices: u32,
+    pub len: u32,
+    pub observers: u8,
+    pub looks: u16,
 }

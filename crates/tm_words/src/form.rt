@@ -6,7 +6,7 @@ ghost use Rattle.tm_words.specs.Command.{asked, form_of, is_named, options_of};
 ghost use Rattle.tm_words.specs.Forms.{asked_by};
 
 use crate::kind::Kind;
-use crate::numbers::{count_in, point_in, seed_in, workers_in};
+use crate::numbers::{count_in, point_in, seed_in, task_in, workers_in};
 use crate::parts::Parts;
 use crate::text::Text;
 
@@ -42,6 +42,12 @@ pub(crate) enum Form<'a> {
     },
     Make {
         number: &'a str,
+    },
+    Load {
+        image: &'a str,
+        task: &'a str,
+        executable: &'a str,
+        new: &'a str,
     },
 }
 
@@ -83,6 +89,14 @@ fn plain_form<'a>(kind: Kind, parts: &Parts<'a>) -> Option<Form<'a>>
         (Kind::Make, [number]) if seed_in(number.get()).is_some() => Some(Form::Make {
             number: number.get(),
         }),
+        (Kind::Load, [image, task, executable, new]) if task_in(task.get()).is_some() => {
+            Some(Form::Load {
+                image: image.get(),
+                task: task.get(),
+                executable: executable.get(),
+                new: new.get(),
+            })
+        }
         _ => None,
     }
 }

@@ -12,15 +12,17 @@ pub(crate) enum Kind {
     Points,
     Replay,
     Make,
+    Load,
 }
 
-const KINDS: [Kind; 6] = [
+const KINDS: [Kind; 7] = [
     Kind::Trace,
     Kind::Record,
     Kind::Live,
     Kind::Points,
     Kind::Replay,
     Kind::Make,
+    Kind::Load,
 ];
 
 impl Kind {
@@ -34,6 +36,7 @@ impl Kind {
             Kind::Points => "points",
             Kind::Replay => "replay",
             Kind::Make => "make",
+            Kind::Load => "load",
         }
     }
 }

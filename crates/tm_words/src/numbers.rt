@@ -2,7 +2,7 @@
 
 ghost use Rattle.std.specs.Prelude.{◌≡◌, ◌≤◌, ◌-◌, ◌^◌, IsTrue, IfSome, length};
 ghost use Rattle.std.specs.List.{list_all};
-ghost use Rattle.tm_words.specs.Numbers.{is_digit, digits_value, number_in};
+ghost use Rattle.tm_words.specs.Numbers.{is_digit, digits_value, number_in, task_in};
 
 /// The point from which a replay begins: 0 to 2^64 - 1.
 pub(crate) fn point_in(text: &str) -> Option<u64>
@@ -27,6 +27,40 @@ pub(crate) fn count_in(text: &str) -> Option<u32>
 {
     match number_in(0, 1_048_576, text) {
         Some(number) => Some(number as u32),
+        None => None,
+    }
+}
+
+/// The observers of a run: 1 to 4.
+pub(crate) fn observers_in(text: &str) -> Option<u8>
+    ensures { result ≡ number_in 1 4 text.now }
+{
+    match number_in(1, 4, text) {
+        Some(number) => Some(number as u8),
+        None => None,
+    }
+}
+
+/// The looks of an observer: 1 to 1,000.
+pub(crate) fn looks_in(text: &str) -> Option<u16>
+    ensures { result ≡ number_in 1 1000 text.now }
+{
+    match number_in(1, 1_000, text) {
+        Some(number) => Some(number as u16),
+        None => None,
+    }
+}
+
+/// The number of a task: 0 to 15, in one or two digits.
+#[tactic(auto, unfolding(crate::specs::Numbers::task_in))]
+pub(crate) fn task_in(text: &str) -> Option<u8>
+    ensures { result ≡ task_in text.now }
+{
+    if text.len() > 2 {
+        return None;
+    }
+    match number_in(0, 15, text) {
+        Some(number) => Some(number as u8),
         None => None,
     }
 }

@@ -2,7 +2,7 @@
 
 ghost use Rattle.std.specs.Prelude.{◌≡◌, IfOk, false};
 ghost use Rattle.clap.specs.Words.{app_of, rule_of, new_rule};
-ghost use Rattle.tm_words.specs.Parsers.{option_rule, trace_parser, record_parser, live_options, live_parser, points_parser, replay_parser, make_parser};
+ghost use Rattle.tm_words.specs.Parsers.{option_rule, trace_parser, record_parser, live_options, live_parser, points_parser, replay_parser, make_parser, load_parser, watch_numbers, watch_parser};
 
 use clap::{Arg, Command};
 use std::alloc::{AllocError, Global};
@@ -81,4 +81,34 @@ pub(crate) fn make_parser<'a>(alloc: Global) -> Result<Command<'a>, AllocError>
     ensures { IfOk result (λ parser. app_of parser ≡ make_parser) }
 {
     Command::new(alloc, "make").arg(text(alloc, "number"))
+}
+
+pub(crate) fn load_parser<'a>(alloc: Global) -> Result<Command<'a>, AllocError>
+    ensures { IfOk result (λ parser. app_of parser ≡ load_parser) }
+{
+    Command::new(alloc, "load")
+        .arg(text(alloc, "image"))?
+        .arg(text(alloc, "task"))?
+        .arg(text(alloc, "executable"))?
+        .arg(text(alloc, "new"))
+}
+
+/// The numbers of a run that observers look at.
+fn watch_numbers<'a>(alloc: Global) -> Result<Command<'a>, AllocError>
+    ensures { IfOk result (λ parser. app_of parser ≡ watch_numbers) }
+{
+    Command::new(alloc, "watch")
+        .arg(option(alloc, "slices"))?
+        .arg(option(alloc, "len"))?
+        .arg(option(alloc, "observers"))?
+        .arg(option(alloc, "looks"))
+}
+
+pub(crate) fn watch_parser<'a>(alloc: Global) -> Result<Command<'a>, AllocError>
+    ensures { IfOk result (λ parser. app_of parser ≡ watch_parser) }
+{
+    watch_numbers(alloc)?
+        .arg(text(alloc, "image"))?
+        .arg(text(alloc, "plant"))?
+        .arg(text(alloc, "prefix"))
 }

@@ -11,7 +11,7 @@ use arrayvec::ArrayVec;
 use std::marker::Model;
 
 /// The most options, and the most names, that a command has.
-const MOST: usize = 3;
+const MOST: usize = 4;
 
 /// An option as it was given, with its dashes, and its value.
 #[derive(Drop, Default)]

@@ -1,9 +1,7 @@
 //! The texts of a form, read by `clap` in the order that each parser takes: the options with their values,
 //! then `--`, then the names. So a parse fails for want of memory alone.
 
-ghost use Rattle.std.specs.Prelude.{◌≡◌, ℕ, List, [], ◌∷◌, ◌++◌, Some, None, IfOk, IsSome, codes, drop, map, true};
-ghost use Rattle.clap.specs.Words.{app_of, is_simple, takes, matches_of, first_of, found_of, first_value, kind_of};
-ghost use Rattle.clap.specs.declared.error.kind.ErrorKind.TheVariants.{OutOfMemory};
+ghost use Rattle.std.specs.Prelude.{◌≡◌, [], ◌∷◌, ◌++◌, Some, None, IfOk, codes, drop, map};
 ghost use Rattle.tm_words.specs.declared.kind.Kind.TheVariants as kind;
 ghost use Rattle.tm_words.specs.Command.{asked, is_named};
 ghost use Rattle.tm_words.specs.Forms.{asked_by};
@@ -11,12 +9,13 @@ ghost use Rattle.tm_words.specs.Parsers.{IsLive, live_asked};
 
 use crate::command::Command;
 use crate::form::Form;
-use crate::numbers::{count_in, point_in, seed_in, workers_in};
+use crate::matches::{matches_of, name_in, optional_name_in, text_in};
+use crate::numbers::{count_in, point_in, seed_in, task_in, workers_in};
 use crate::parsers::{
-    live_parser, make_parser, points_parser, record_parser, replay_parser, trace_parser,
+    live_parser, load_parser, make_parser, points_parser, record_parser, replay_parser,
+    trace_parser,
 };
 use crate::text::{Name, Text};
-use clap::{ArgMatches, Command as Parser, Error};
 use std::alloc::{AllocError, Global};
 
 /// What the texts of a form ask for.
@@ -42,59 +41,12 @@ pub(crate) fn read(alloc: Global, form: &Form<'_>) -> Result<Option<Command>, Al
             workers,
         } => read_replay(alloc, image, dump, from, workers),
         Form::Make { number } => read_make(alloc, number),
-    }
-}
-
-/// The matches of words that a parser takes.
-fn matches_of<'a>(parser: Parser<'a>, words: &'a [&'a str]) -> Result<ArgMatches<'a>, AllocError>
-    requires simple { is_simple (app_of parser) ≡ true }
-    requires taken { takes (app_of parser) (map (λ word. word.now) words.now) ≡ true }
-    ensures { IfOk result (λ matches. (name : List ℕ) →
-        first_value (found_of matches) name ≡ first_of name (matches_of (app_of parser.entry) (map (λ word. word.now) words.entry.now))) }
-{
-    match parser.try_get_matches_from(words) {
-        Ok(matches) => Ok(matches),
-        Err(error) => Err(starved(error)),
-    }
-}
-
-/// Want of memory, the one way in which a parse fails here.
-fn starved(_error: Error) -> AllocError
-    requires { kind_of _error ≡ OutOfMemory }
-{
-    AllocError
-}
-
-/// The text of an argument, which the parser was given.
-fn text_in<'a>(matches: &ArgMatches<'a>, name: &str) -> &'a str
-    requires { IsSome (first_value (found_of matches.now) name.now) }
-    ensures { Some result.now ≡ first_value (found_of matches.now) name.now }
-{
-    match matches.get_str(name) {
-        Some(text) => text,
-        None => unreachable!(),
-    }
-}
-
-/// The same as a name.
-fn name_in(alloc: Global, matches: &ArgMatches<'_>, name: &str) -> Result<Name, AllocError>
-    requires { IsSome (first_value (found_of matches.now) name.now) }
-    ensures { IfOk result (λ given. Some given ≡ first_value (found_of matches.now) name.now) }
-{
-    Name::new(alloc, text_in(matches, name))
-}
-
-/// The same, where the parser was given one.
-fn optional_name_in(
-    alloc: Global,
-    matches: &ArgMatches<'_>,
-    name: &str,
-) -> Result<Option<Name>, AllocError>
-    ensures { IfOk result (λ given. given ≡ first_value (found_of matches.now) name.now) }
-{
-    match matches.get_str(name) {
-        Some(text) => Ok(Some(Name::new(alloc, text)?)),
-        None => Ok(None),
+        Form::Load {
+            image,
+            task,
+            executable,
+            new,
+        } => read_load(alloc, image, task, executable, new),
     }
 }
 
@@ -305,6 +257,31 @@ fn read_make(alloc: Global, number: &str) -> Result<Option<Command>, AllocError>
     let matches = matches_of(make_parser(alloc)?, &words)?;
     match seed_in(text_in(&matches, "number")) {
         Some(number) => Ok(Some(Command::Make { number })),
+        None => Ok(None),
+    }
+}
+
+fn read_load(
+    alloc: Global,
+    image: &str,
+    task: &str,
+    executable: &str,
+    new: &str,
+) -> Result<Option<Command>, AllocError>
+    ensures { IfOk result (λ command. command ≡ asked kind.Load (image.now ∷ task.now ∷ executable.now ∷ new.now ∷ []) []) }
+{
+    let words = ["load", "--", image, task, executable, new];
+    let matches = matches_of(load_parser(alloc)?, &words)?;
+    let image = name_in(alloc, &matches, "image")?;
+    let executable = name_in(alloc, &matches, "executable")?;
+    let new = name_in(alloc, &matches, "new")?;
+    match task_in(text_in(&matches, "task")) {
+        Some(task) => Ok(Some(Command::Load {
+            image,
+            task,
+            executable,
+            new,
+        })),
         None => Ok(None),
     }
 }

@@ -1,6 +1,6 @@
 //! Words that are of no form.
 
-use crate::told::told;
+use crate::told::{told, told_of_watch};
 use std::test::Fail;
 
 #[test]
@@ -121,6 +121,94 @@ fn options_of_a_run_beside_devices_are_refused(rt: HostRuntime) -> Result<(), Fa
     for words in cases {
         let text = told(alloc, words)?;
         assert_eq!(rt; text.as_str(), "nothing", "{words:?}");
+    }
+    Ok(())
+}
+
+#[test]
+fn tasks_and_names_of_a_load_are_refused(rt: HostRuntime) -> Result<(), Fail> {
+    let alloc = rt.alloc();
+    let cases: [&[&str]; 26] = [
+        &["load", "a", "0", "b"],
+        &["load", "a", "0", "b", "c", "d"],
+        &["load", "a", "b", "c"],
+        &["load", "0", "a", "b", "c"],
+        &["load", "a", "b", "c", "0"],
+        &["load", "a", "16", "b", "c"],
+        &["load", "a", "016", "b", "c"],
+        &["load", "a", "000", "b", "c"],
+        &["load", "a", "015", "b", "c"],
+        &["load", "a", "99", "b", "c"],
+        &["load", "a", "-1", "b", "c"],
+        &["load", "a", "+1", "b", "c"],
+        &["load", "a", "0x", "b", "c"],
+        &["load", "a", " 1", "b", "c"],
+        &["load", "a", "", "b", "c"],
+        &["load", "", "0", "b", "c"],
+        &["load", "a", "0", "", "c"],
+        &["load", "a", "0", "b", ""],
+        &["load", "-a", "0", "b", "c"],
+        &["load", "a", "0", "-b", "c"],
+        &["load", "a", "0", "b", "-c"],
+        &["load", "a", "--task=0", "b", "c"],
+        &["load", "a", "0", "b", "c", "--task=0"],
+        &["load", "--", "a", "0", "b", "c"],
+        &["Load", "a", "0", "b", "c"],
+        &["elf", "a", "0", "b", "c"],
+    ];
+    for words in cases {
+        let text = told(alloc, words)?;
+        assert_eq!(rt; text.as_str(), "nothing", "{words:?}");
+    }
+    Ok(())
+}
+
+#[test]
+fn words_that_are_not_of_watch_are_refused(rt: HostRuntime) -> Result<(), Fail> {
+    let alloc = rt.alloc();
+    let cases = [
+        "",
+        "watch",
+        "watch a b c",
+        "watch a b c --len=1 --observers=1 --looks=1",
+        "watch a b c --slices=1 --observers=1 --looks=1",
+        "watch a b c --slices=1 --len=1 --looks=1",
+        "watch a b c --slices=1 --len=1 --observers=1",
+        "watch a b c --slices=1 --len=1 --observers=1 --looks=1 d",
+        "watch a b --slices=1 --len=1 --observers=1 --looks=1",
+        "watch a -b c --slices=1 --len=1 --observers=1 --looks=1",
+        "watch a b -- --slices=1 --len=1 --observers=1 --looks=1",
+        "watch a b - --slices=1 --len=1 --observers=1 --looks=1",
+        "watch a b c --slices=1048577 --len=1 --observers=1 --looks=1",
+        "watch a b c --slices=1 --len=1048577 --observers=1 --looks=1",
+        "watch a b c --slices=1 --len=1 --observers=0 --looks=1",
+        "watch a b c --slices=1 --len=1 --observers=5 --looks=1",
+        "watch a b c --slices=1 --len=1 --observers=1 --looks=0",
+        "watch a b c --slices=1 --len=1 --observers=1 --looks=1001",
+        "watch a b c --slices= --len=1 --observers=1 --looks=1",
+        "watch a b c --slices=1 --len= --observers=1 --looks=1",
+        "watch a b c --slices=1 --len=1 --observers= --looks=1",
+        "watch a b c --slices=1 --len=1 --observers=1 --looks=",
+        "watch a b c --slices=1 --len=1 --observers=1 --looks=-1",
+        "watch a b c --slices=+1 --len=1 --observers=1 --looks=1",
+        "watch a b c --slices=1 --len=1 --observers=0x1 --looks=1",
+        "watch a b c --slices=000000000000000000001 --len=1 --observers=1 --looks=1",
+        "watch a b c --slices=1 --len=1 --observers=1 --looks=1 --slices=1",
+        "watch a b c --slices=1 --len=1 --observers=1 --looks=1 --looks 1",
+        "watch a b c --slices=1 --len=1 --observers=1 --looks",
+        "watch a b c --slices=1 --len=1 --observers=1 --looks --",
+        "watch a b c --slices=1 --len=1 --observers=1 --looks=1 --tape=t",
+        "watch a b c --slices=1 --len=1 --observers=1 --looks=1 --workers=1",
+        "watch a b c --slices=1 --len=1 --observers=1 --look=1",
+        "watch a b c --slices=1 --len=1 --observers=1 --looks==1",
+        "Watch a b c --slices=1 --len=1 --observers=1 --looks=1",
+        "live a b c --slices=1 --len=1 --observers=1 --looks=1",
+        "--slices=1 watch a b c --len=1 --observers=1 --looks=1",
+        "trace a b",
+    ];
+    for line in cases {
+        let text = told_of_watch(alloc, line)?;
+        assert_eq!(rt; text.as_str(), "nothing", "{line}");
     }
     Ok(())
 }

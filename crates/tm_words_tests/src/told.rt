@@ -2,7 +2,7 @@
 
 use std::alloc::{AllocError, Global};
 use std::test::Fail;
-use tm_words::{Command, Name, command_of};
+use tm_words::{Command, Name, WatchCommand, command_of, watch_of};
 
 /// What words ask for, or `nothing`.
 pub(crate) fn told(alloc: Global, words: &[&str]) -> Result<String, Fail> {
@@ -16,12 +16,41 @@ pub(crate) fn told(alloc: Global, words: &[&str]) -> Result<String, Fail> {
     }
 }
 
+/// What the words of a line of `watch` ask for, or `nothing`.
+pub(crate) fn told_of_watch(alloc: Global, line: &str) -> Result<String, Fail> {
+    let mut given = Vec::new(alloc);
+    for word in line.split_whitespace() {
+        given.push(String::from_str(alloc, word)?)?;
+    }
+    match watch_of(alloc, &given)? {
+        Some(command) => Ok(watch_text(alloc, &command)?),
+        None => Ok(String::from_str(alloc, "nothing")?),
+    }
+}
+
+fn watch_text(alloc: Global, command: &WatchCommand) -> Result<String, AllocError> {
+    let names = [&command.image, &command.plant, &command.prefix];
+    let names = named(alloc, "watch", &names)?;
+    let (slices, len) = (command.slices, command.len);
+    let (observers, looks) = (command.observers, command.looks);
+    format!(in alloc; "{names} slices {slices} len {len} observers {observers} looks {looks}")
+}
+
 fn text_of(alloc: Global, command: &Command) -> Result<String, AllocError> {
     match command {
         Command::Trace { image, plan } => named(alloc, "trace", &[image, plan]),
         Command::Record { image, plan, dump } => named(alloc, "record", &[image, plan, dump]),
         Command::Points { image, dump } => named(alloc, "points", &[image, dump]),
         Command::Make { number } => format!(in alloc; "make {number}"),
+        Command::Load {
+            image,
+            task,
+            executable,
+            new,
+        } => {
+            let names = named(alloc, "load", &[image, executable, new])?;
+            format!(in alloc; "{names} task {task}")
+        }
         Command::Replay {
             image,
             dump,
