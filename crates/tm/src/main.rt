@@ -7,10 +7,11 @@ use std::alloc::Global;
 use std::env;
 use std::io::{self, Write};
 use std::process::ExitCode;
+use std::sync::Wait;
 use std::thread::Threads;
 use tm_io::{FileShelf, Open, OutSink, Shelf, Sink};
 use tm_irq::Bench;
-use tm_prog::{Status, tm};
+use tm_prog::{Status, tm, watch};
 
 /// The words after the program's name. A word that is no UTF-8 makes them words of no form.
 fn words(rt: &HostRuntime) -> Result<Vec<String>, Status> {
@@ -43,16 +44,21 @@ fn inform(rt: &HostRuntime, text: &str) -> Status {
 }
 
 /// Does what the words ask for, beside eight devices.
-fn run(
-    rt: &(impl Threads + Sync),
+fn run<R: Threads + Wait + Sync>(
+    rt: &R,
     alloc: Global,
     words: &[String],
     shelf: &mut impl Shelf,
     out: &mut impl Sink,
 ) -> Status {
-    match Bench::new(alloc, 8) {
-        Ok(mut bench) => tm(rt, alloc, words, shelf, out, &mut bench, &Open),
-        Err(_) => Status::Memory,
+    let Ok(mut bench) = Bench::new(alloc, 8) else {
+        return Status::Memory;
+    };
+    match words {
+        [first, ..] if first.as_str() == "watch" => {
+            watch(rt, alloc, words, shelf, out, &mut bench, &Open)
+        }
+        _ => tm(rt, alloc, words, shelf, out, &mut bench, &Open),
     }
 }
 

@@ -1,5 +1,5 @@
 -- How a call ends, by what its reading, its puts and its writes gave.
-use Rattle.std.proofs.Common.{◌≡◌, Option, Some, Result, Ok, IsTrue, refl, subst}
+use Rattle.std.proofs.Common.{◌≡◌, Option, Some, None, Result, Ok, IsTrue, refl, subst}
 use Rattle.tm_irq.specs.declared.bench.Bench.{Bench}
 use Rattle.tm_io.specs.Shelf.{ShelfView}
 use Rattle.tm_io.specs.Sink.{SinkView}
@@ -12,21 +12,26 @@ use Rattle.tm_prog.specs.Reads.{IsUnmade}
 use Rattle.tm_prog.specs.MadeFor.{IsMadeFor}
 use Rattle.tm_prog.specs.Answer.{made_of, answer_of}
 use Rattle.tm_prog.specs.World.{World, world}
-use Rattle.tm_prog.specs.Outcome.{Ends, IsAnswer}
+use Rattle.tm_prog.specs.Outcome.{Ends, EndsAs, IsAnswer}
 use Rattle.tm_prog.specs.BenchEnds.{BenchEnds}
 
 -- nothing was made, and the sink was not touched
+pub unmade_as : {A : Type 0} (unasked : Type 0) (answers : MadeView → Type 0) (plain : Option (Result A Status)) (class : Class) (status : Status)
+    (before after : ShelfView) (sink : SinkView) → IsUnmade class status plain before after →
+    EndsAs unasked answers plain class status (world before sink) (world after sink)
+unmade_as unasked answers plain Done status before after sink none = absurd none
+unmade_as unasked answers plain HalfDone status before after sink none = absurd none
+unmade_as unasked answers plain Unasked status before after sink none = absurd none
+unmade_as unasked answers plain Unread status before after sink u = (u, refl)
+unmade_as unasked answers plain Starved status before after sink u = (u, refl)
+unmade_as unasked answers plain Refusal status before after sink u = (u, refl)
+
 pub unmade : (class : Class) (status : Status) (asked : Option Command) (command : Command) (gained : Gained) (before after : ShelfView) (sink : SinkView) →
     Some command ≡ asked → IsUnmade class status (made_of command gained before.content) before after →
     Ends class status asked gained (world before sink) (world after sink)
-unmade Done status asked command gained before after sink is none = absurd none
-unmade HalfDone status asked command gained before after sink is none = absurd none
-unmade Unasked status asked command gained before after sink is none = absurd none
-unmade Unread status asked command gained before after sink is u =
-    (subst (λ (q : Option Command). IsUnmade Unread status (answer_of q gained before.content) before after) is u, refl)
-unmade Starved status asked command gained before after sink is u = (u, refl)
-unmade Refusal status asked command gained before after sink is u =
-    (subst (λ (q : Option Command). IsUnmade Refusal status (answer_of q gained before.content) before after) is u, refl)
+unmade class status asked command gained before after sink is u =
+    unmade_as (asked ≡ None) (λ made. IsAnswer asked gained made (world before sink)) (answer_of asked gained before.content) class status before after sink
+    (subst (λ (q : Option Command). IsUnmade class status (answer_of q gained before.content) before after) is u)
 
 -- what was made is the plain answer, after gets that left the shelf as it was
 pub made_is : (asked : Option Command) (command : Command) (gained : Gained) (made : MadeView) (before : World) →

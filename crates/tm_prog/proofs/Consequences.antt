@@ -1,5 +1,5 @@
 -- What follows from how a call ended, by its class alone.
-use Rattle.std.proofs.Common.{◌≡◌, ◌≢◌, ℕ, List, [], ◌∷◌, map, All, Option, Some, None, Ok, Bool, true, false, IsTrue, ◌⊎◌, inl, inr, refl, sym, ap, ◌∙◌, subst, arith, nat_lt, ◌+◌, ◌≤◌}
+use Rattle.std.proofs.Common.{◌≡◌, ◌≢◌, ℕ, List, [], ◌∷◌, map, All, Option, Some, None, Result, Ok, Bool, true, false, IsTrue, ◌⊎◌, inl, inr, refl, sym, ap, ◌∙◌, subst, arith, nat_lt, ◌+◌, ◌≤◌}
 use Rattle.std.specs.Prelude.{if◌then◌else◌}
 use Rattle.std.specs.Str.{bytes_eq}
 use Rattle.std.proofs.lemmas.Bool.Decides.{nat_tests}
@@ -15,10 +15,10 @@ use Rattle.tm_prog.specs.Class.{Class, class_of, Done, HalfDone, Unasked, Unread
 use Rattle.tm_prog.specs.Made.{PutView, MadeView}
 use Rattle.tm_prog.specs.Gained.{Gained}
 use Rattle.tm_prog.specs.Reads.{CanRefuse}
-use Rattle.tm_prog.specs.MadeFor.{names_put, IsMadeFor}
+use Rattle.tm_prog.specs.MadeFor.{names_put}
 use Rattle.tm_prog.specs.Answer.{answer_of}
 use Rattle.tm_prog.specs.World.{World, all_put, PutsStopped, IsHalfDone}
-use Rattle.tm_prog.specs.Outcome.{Ends, Counts, CountsStay, PutCounted, WriteCounted, Stays, OthersStay, NoneRose, IsDone}
+use Rattle.tm_prog.specs.Outcome.{Ends, EndsAs, IsAnswer, Counts, CountsStay, PutCounted, WriteCounted, Stays, OnlyThese, OthersStay, NoneRose, IsDone}
 
 -- of a shelf only the contents and the count of puts change by puts
 record PutsKeep (old new : ShelfView) : Type 0 where
@@ -80,21 +80,24 @@ part_counts before after shelf sink = record {
   faults = ap (λ (k : SinkView). k.faults) sink;
 }
 
-pub counts : (class : Class) (s : Status) (command : Option Command) (gained : Gained) (before after : World) → Ends class s command gained before after → Counts class before after
-counts Done s command gained before after e = record {
+pub counts_as : {A : Type 0} (unasked : Type 0) (answers : MadeView → Type 0) (plain : Option (Result A Status)) (class : Class) (s : Status) (before after : World) → EndsAs unasked answers plain class s before after → Counts class before after
+counts_as unasked answers plain Done s before after e = record {
   gets = ap (λ (w : World). w.shelf.gets) e.2 ∙ (puts_keep e.0.puts before.shelf).gets;
   puts = ap (λ (w : World). w.shelf.puts) e.2 ∙ puts_count e.0.puts before.shelf;
   faults = ap (λ (w : World). w.sink.faults) e.2;
 }
-counts HalfDone s command gained before after e = half_counts e.0 before after e.2
-counts Unasked s command gained before after e = same_counts before after e.0
-counts Unread s command gained before after e = record {
+counts_as unasked answers plain HalfDone s before after e = half_counts e.0 before after e.2
+counts_as unasked answers plain Unasked s before after e = same_counts before after e.0
+counts_as unasked answers plain Unread s before after e = record {
   gets = ap (λ (s : ShelfView). s.gets) e.0.0;
   puts = ap (λ (s : ShelfView). s.puts) e.0.0;
   faults = ap (λ (k : SinkView). k.faults) e.1;
 }
-counts Starved s command gained before after e = part_counts before after e.0 e.1
-counts Refusal s command gained before after e = part_counts before after e.0.0 e.1
+counts_as unasked answers plain Starved s before after e = part_counts before after e.0 e.1
+counts_as unasked answers plain Refusal s before after e = part_counts before after e.0.0 e.1
+
+pub counts : (class : Class) (s : Status) (command : Option Command) (gained : Gained) (before after : World) → Ends class s command gained before after → Counts class before after
+counts class s command gained before after = counts_as (command ≡ None) (λ made. IsAnswer command gained made before) (answer_of command gained before.shelf.content) class s before after
 
 half_stays : (made : MadeView) (before after : World) → IsHalfDone made before after → Stays before after
 half_stays made before after (inl stopped) =
@@ -120,8 +123,8 @@ part_stays before after shelf is kept sink = record {
 same_keeps : (s : ShelfView) → PutsKeep s s
 same_keeps s = puts_keep [] s
 
-pub stays : (class : Class) (s : Status) (command : Option Command) (gained : Gained) (before after : World) → Ends class s command gained before after → Stays before after
-stays Done s command gained before after e =
+pub stays_as : {A : Type 0} (unasked : Type 0) (answers : MadeView → Type 0) (plain : Option (Result A Status)) (class : Class) (s : Status) (before after : World) → EndsAs unasked answers plain class s before after → Stays before after
+stays_as unasked answers plain Done s before after e =
     let kept = puts_keep e.0.puts before.shelf in
     record {
       tells = ap (λ (w : World). w.shelf.tells) e.2 ∙ kept.tells;
@@ -129,16 +132,19 @@ stays Done s command gained before after e =
       rooms = ap (λ (w : World). w.shelf.room) e.2 ∙ kept.room;
       sink_calm = ap (λ (w : World). w.sink.calm) e.2;
     }
-stays HalfDone s command gained before after e = half_stays e.0 before after e.2
-stays Unasked s command gained before after e = part_stays before after before.shelf (ap (λ (w : World). w.shelf) e.0) (same_keeps before.shelf) (ap (λ (w : World). w.sink) e.0)
-stays Unread s command gained before after e = record {
+stays_as unasked answers plain HalfDone s before after e = half_stays e.0 before after e.2
+stays_as unasked answers plain Unasked s before after e = part_stays before after before.shelf (ap (λ (w : World). w.shelf) e.0) (same_keeps before.shelf) (ap (λ (w : World). w.sink) e.0)
+stays_as unasked answers plain Unread s before after e = record {
   tells = ap (λ (s : ShelfView). s.tells) e.0.0;
   calm = ap (λ (s : ShelfView). s.calm) e.0.0;
   rooms = ap (λ (s : ShelfView). s.room) e.0.0;
   sink_calm = ap (λ (k : SinkView). k.calm) e.1;
 }
-stays Starved s command gained before after e = part_stays before after before.shelf e.0 (same_keeps before.shelf) e.1
-stays Refusal s command gained before after e = part_stays before after before.shelf e.0.0 (same_keeps before.shelf) e.1
+stays_as unasked answers plain Starved s before after e = part_stays before after before.shelf e.0 (same_keeps before.shelf) e.1
+stays_as unasked answers plain Refusal s before after e = part_stays before after before.shelf e.0.0 (same_keeps before.shelf) e.1
+
+pub stays : (class : Class) (s : Status) (command : Option Command) (gained : Gained) (before after : World) → Ends class s command gained before after → Stays before after
+stays class s command gained before after = stays_as (command ≡ None) (λ made. IsAnswer command gained made before) (answer_of command gained before.shelf.content) class s before after
 
 not_true : (b : Bool) → (b ≡ true → ⊥) → b ≡ false
 not_true true h = absurd (h refl)
@@ -173,35 +179,45 @@ half_elsewhere made before after other apart (inl stopped) = stopped_elsewhere m
 half_elsewhere made before after other apart (inr stopped) =
     ap (λ (s : ShelfView). s.content other) stopped.0 ∙ puts_elsewhere made.puts before.shelf other apart
 
--- what was made is put under the command's names alone
-elsewhere : (command : Command) (made : MadeView) (other : List ℕ) → IsMadeFor command made →
-    All (λ name. other ≢ name) (names_put command) → All (λ name. other ≢ name) (map (λ p. p.name) made.puts)
-elsewhere command made other for apart = All-same (λ name. other ≢ name) _ _ for.names apart
-
-pub contents_stay : (class : Class) (s : Status) (command : Option Command) (gained : Gained) (before after : World) → Ends class s command gained before after →
+-- nothing is put where nothing was made
+pub contents_stay_as : {A : Type 0} (unasked : Type 0) (answers : MadeView → Type 0) (plain : Option (Result A Status)) (class : Class) (s : Status) (before after : World) → EndsAs unasked answers plain class s before after →
     class ≢ Done → class ≢ HalfDone → after.shelf.content ≡ before.shelf.content
-contents_stay Done s command gained before after e not_done not_half = absurd (not_done refl)
-contents_stay HalfDone s command gained before after e not_done not_half = absurd (not_half refl)
-contents_stay Unasked s command gained before after e not_done not_half = ap (λ (w : World). w.shelf.content) e.0
-contents_stay Unread s command gained before after e not_done not_half = ap (λ (s : ShelfView). s.content) e.0.0
-contents_stay Starved s command gained before after e not_done not_half = ap (λ (s : ShelfView). s.content) e.0
-contents_stay Refusal s command gained before after e not_done not_half = ap (λ (s : ShelfView). s.content) e.0.0
+contents_stay_as unasked answers plain Done s before after e not_done not_half = absurd (not_done refl)
+contents_stay_as unasked answers plain HalfDone s before after e not_done not_half = absurd (not_half refl)
+contents_stay_as unasked answers plain Unasked s before after e not_done not_half = ap (λ (w : World). w.shelf.content) e.0
+contents_stay_as unasked answers plain Unread s before after e not_done not_half = ap (λ (s : ShelfView). s.content) e.0.0
+contents_stay_as unasked answers plain Starved s before after e not_done not_half = ap (λ (s : ShelfView). s.content) e.0
+contents_stay_as unasked answers plain Refusal s before after e not_done not_half = ap (λ (s : ShelfView). s.content) e.0.0
 
-all_same : (command : Option Command) (before after : World) → after.shelf.content ≡ before.shelf.content → OthersStay command before after
-all_same None before after same = same
-all_same (Some command) before after same = λ name apart. ap (λ (content : List ℕ → Option (List ℕ)). content name) same
+all_same : (names : List (List ℕ)) (before after : World) → after.shelf.content ≡ before.shelf.content → OnlyThese names before after
+all_same names before after same = λ name apart. ap (λ (content : List ℕ → Option (List ℕ)). content name) same
+
+-- what is put is put under these names alone
+pub only_these : {A : Type 0} (unasked : Type 0) (answers : MadeView → Type 0) (plain : Option (Result A Status)) (class : Class) (s : Status) (before after : World) → EndsAs unasked answers plain class s before after →
+    (names : List (List ℕ)) → ((made : MadeView) → answers made → map (λ p. p.name) made.puts ≡ names) → OnlyThese names before after
+only_these unasked answers plain Done s before after e names named = λ name apart.
+    ap (λ (w : World). w.shelf.content name) e.2 ∙ puts_elsewhere e.0.puts before.shelf name (All-same (λ put. name ≢ put) _ _ (named e.0 e.1) apart)
+only_these unasked answers plain HalfDone s before after e names named = λ name apart.
+    half_elsewhere e.0 before after name (All-same (λ put. name ≢ put) _ _ (named e.0 e.1) apart) e.2
+only_these unasked answers plain Unasked s before after e names named = all_same names before after (ap (λ (w : World). w.shelf.content) e.0)
+only_these unasked answers plain Unread s before after e names named = all_same names before after (ap (λ (s : ShelfView). s.content) e.0.0)
+only_these unasked answers plain Starved s before after e names named = all_same names before after (ap (λ (s : ShelfView). s.content) e.0)
+only_these unasked answers plain Refusal s before after e names named = all_same names before after (ap (λ (s : ShelfView). s.content) e.0.0)
+
+-- where the words ask for nothing, nothing is made
+unasked_stays : (class : Class) (s : Status) (gained : Gained) (before after : World) → Ends class s None gained before after → after.shelf.content ≡ before.shelf.content
+unasked_stays Done s gained before after e = absurd e.1
+unasked_stays HalfDone s gained before after e = absurd e.1
+unasked_stays Unasked s gained before after e = ap (λ (w : World). w.shelf.content) e.0
+unasked_stays Unread s gained before after e = ap (λ (s : ShelfView). s.content) e.0.0
+unasked_stays Starved s gained before after e = ap (λ (s : ShelfView). s.content) e.0
+unasked_stays Refusal s gained before after e = ap (λ (s : ShelfView). s.content) e.0.0
 
 pub others_stay : (class : Class) (s : Status) (command : Option Command) (gained : Gained) (before after : World) → Ends class s command gained before after → OthersStay command before after
-others_stay Done s None gained before after e = absurd e.1
-others_stay Done s (Some command) gained before after e = λ name apart.
-    ap (λ (w : World). w.shelf.content name) e.2 ∙ puts_elsewhere e.0.puts before.shelf name (elsewhere command e.0 name e.1.0 apart)
-others_stay HalfDone s None gained before after e = absurd e.1
-others_stay HalfDone s (Some command) gained before after e = λ name apart.
-    half_elsewhere e.0 before after name (elsewhere command e.0 name e.1.0 apart) e.2
-others_stay Unasked s command gained before after e = all_same command before after (ap (λ (w : World). w.shelf.content) e.0)
-others_stay Unread s command gained before after e = all_same command before after (ap (λ (s : ShelfView). s.content) e.0.0)
-others_stay Starved s command gained before after e = all_same command before after (ap (λ (s : ShelfView). s.content) e.0)
-others_stay Refusal s command gained before after e = all_same command before after (ap (λ (s : ShelfView). s.content) e.0.0)
+others_stay class s None gained before after e = unasked_stays class s gained before after e
+others_stay class s (Some command) gained before after e =
+    only_these (Some command ≡ None) (λ made. IsAnswer (Some command) gained made before) (answer_of (Some command) gained before.shelf.content)
+    class s before after e (names_put command) (λ made answers. answers.0.names)
 
 -- a class with one status
 pub done_is : (s : Status) → class_of s ≡ Done → s ≡ status.Ok
@@ -215,6 +231,8 @@ done_is (status.Point missing) is = cc
 done_is (status.Diverged found) is = cc
 done_is status.WriteFault is = cc
 done_is (status.TooLong file) is = cc
+done_is (status.Elf fault) is = cc
+done_is (status.NoTask task) is = cc
 done_is status.Memory is = cc
 
 pub half_done_is : (s : Status) → class_of s ≡ HalfDone → s ≡ status.WriteFault
@@ -228,9 +246,11 @@ half_done_is (status.Point missing) is = cc
 half_done_is (status.Diverged found) is = cc
 half_done_is status.WriteFault is = refl
 half_done_is (status.TooLong file) is = cc
+half_done_is (status.Elf fault) is = cc
+half_done_is (status.NoTask task) is = cc
 half_done_is status.Memory is = cc
 
-starved_is : (s : Status) → class_of s ≡ Starved → s ≡ status.Memory
+pub starved_is : (s : Status) → class_of s ≡ Starved → s ≡ status.Memory
 starved_is status.Ok is = cc
 starved_is status.Words is = cc
 starved_is status.ReadFault is = cc
@@ -241,12 +261,18 @@ starved_is (status.Point missing) is = cc
 starved_is (status.Diverged found) is = cc
 starved_is status.WriteFault is = cc
 starved_is (status.TooLong file) is = cc
+starved_is (status.Elf fault) is = cc
+starved_is (status.NoTask task) is = cc
 starved_is status.Memory is = refl
+
+pub unput_as : {A : Type 0} (unasked : Type 0) (answers : MadeView → Type 0) (plain : Option (Result A Status)) (s : Status) (before after : World) →
+    EndsAs unasked answers plain (class_of s) s before after → s ≢ status.Ok → s ≢ status.WriteFault → after.shelf.content ≡ before.shelf.content
+unput_as unasked answers plain s before after e not_ok not_fault =
+    contents_stay_as unasked answers plain (class_of s) s before after e (λ is. not_ok (done_is s is)) (λ is. not_fault (half_done_is s is))
 
 pub unput : (s : Status) (command : Option Command) (gained : Gained) (before after : World) → Ends (class_of s) s command gained before after →
     s ≢ status.Ok → s ≢ status.WriteFault → after.shelf.content ≡ before.shelf.content
-unput s command gained before after e not_ok not_fault =
-    contents_stay (class_of s) s command gained before after e (λ is. not_ok (done_is s is)) (λ is. not_fault (half_done_is s is))
+unput s command gained before after = unput_as (command ≡ None) (λ made. IsAnswer command gained made before) (answer_of command gained before.shelf.content) s before after
 
 at_last : (n : ℕ) → nat_lt n last_count ≡ false → last_count ≤ n
 at_last n is = grind (arith, nat_tests)
@@ -266,29 +292,47 @@ one_rose before after quiet (inl put) = quiet.puts (rose _ _ put.puts)
 one_rose before after quiet (inr write) = quiet.faults (rose _ _ write.faults)
 
 -- a call in which no count rose met no fault
+pub undisturbed_as : {A : Type 0} (unasked : Type 0) (answers : MadeView → Type 0) (plain : Option (Result A Status)) (class : Class) (s : Status) (before after : World) (value : A) →
+    EndsAs unasked answers plain class s before after → class_of s ≡ class → IsTrue before.shelf.tells →
+    ¬ unasked → plain ≡ Some (Ok value) → NoneRose before after → IsDone s
+undisturbed_as unasked answers plain Done s before after value e is tells asked due quiet = inl (done_is s is)
+undisturbed_as unasked answers plain HalfDone s before after value e is tells asked due quiet =
+    absurd (one_rose before after quiet (half_counts e.0 before after e.2))
+undisturbed_as unasked answers plain Unasked s before after value e is tells asked due quiet = absurd (asked e.1)
+undisturbed_as unasked answers plain Unread s before after value e is tells asked due quiet =
+    absurd (quiet.gets (rose _ _ (ap (λ (s : ShelfView). s.gets) e.0.0)))
+undisturbed_as unasked answers plain Starved s before after value e is tells asked due quiet = inr (starved_is s is)
+undisturbed_as unasked answers plain Refusal s before after value e is tells asked due quiet = let refused = e.0.2 tells in cc
+
+asks : (command : Option Command) (gained : Gained) (content : List ℕ → Option (List ℕ)) (made : MadeView) →
+    answer_of command gained content ≡ Some (Ok made) → ¬ (command ≡ None)
+asks command gained content made due is =
+    let none : answer_of None gained content ≡ Some (Ok made) =
+    subst (λ (q : Option Command). answer_of q gained content ≡ Some (Ok made)) is due in cc
+
 pub undisturbed : (class : Class) (s : Status) (command : Option Command) (gained : Gained) (before after : World) (made : MadeView) →
     Ends class s command gained before after → class_of s ≡ class → IsTrue before.shelf.tells →
     answer_of command gained before.shelf.content ≡ Some (Ok made) → NoneRose before after → IsDone s
-undisturbed Done s command gained before after made e is tells due quiet = inl (done_is s is)
-undisturbed HalfDone s command gained before after made e is tells due quiet =
-    absurd (one_rose before after quiet (half_counts e.0 before after e.2))
-undisturbed Unasked s command gained before after made e is tells due quiet =
-    let none : answer_of None gained before.shelf.content ≡ Some (Ok made) =
-    subst (λ (q : Option Command). answer_of q gained before.shelf.content ≡ Some (Ok made)) e.1 due in cc
-undisturbed Unread s command gained before after made e is tells due quiet =
-    absurd (quiet.gets (rose _ _ (ap (λ (s : ShelfView). s.gets) e.0.0)))
-undisturbed Starved s command gained before after made e is tells due quiet = inr (starved_is s is)
-undisturbed Refusal s command gained before after made e is tells due quiet = let refused = e.0.2 tells in cc
+undisturbed class s command gained before after made e is tells due quiet =
+    undisturbed_as (command ≡ None) (λ made. IsAnswer command gained made before) (answer_of command gained before.shelf.content)
+    class s before after made e is tells (asks command gained before.shelf.content made due) due quiet
+
+-- a refusal is of its files
+pub refusals_as : {A : Type 0} (unasked : Type 0) (answers : MadeView → Type 0) (plain : Option (Result A Status)) (s : Status) (before after : World) →
+    EndsAs unasked answers plain (class_of s) s before after → CanRefuse s
+refusals_as unasked answers plain status.Ok before after e = tt
+refusals_as unasked answers plain status.Words before after e = tt
+refusals_as unasked answers plain status.ReadFault before after e = tt
+refusals_as unasked answers plain (status.Image fault) before after e = e.0.1
+refusals_as unasked answers plain (status.Plan fault) before after e = e.0.1
+refusals_as unasked answers plain (status.Dump fault) before after e = e.0.1
+refusals_as unasked answers plain (status.Point missing) before after e = tt
+refusals_as unasked answers plain (status.Diverged found) before after e = tt
+refusals_as unasked answers plain status.WriteFault before after e = tt
+refusals_as unasked answers plain (status.TooLong file) before after e = e.0.1
+refusals_as unasked answers plain status.Memory before after e = tt
+refusals_as unasked answers plain (status.Elf fault) before after e = e.0.1
+refusals_as unasked answers plain (status.NoTask task) before after e = tt
 
 pub refusals : (s : Status) (command : Option Command) (gained : Gained) (before after : World) → Ends (class_of s) s command gained before after → CanRefuse s
-refusals status.Ok command gained before after e = tt
-refusals status.Words command gained before after e = tt
-refusals status.ReadFault command gained before after e = tt
-refusals (status.Image fault) command gained before after e = e.0.1
-refusals (status.Plan fault) command gained before after e = e.0.1
-refusals (status.Dump fault) command gained before after e = e.0.1
-refusals (status.Point missing) command gained before after e = tt
-refusals (status.Diverged found) command gained before after e = tt
-refusals status.WriteFault command gained before after e = tt
-refusals (status.TooLong file) command gained before after e = e.0.1
-refusals status.Memory command gained before after e = tt
+refusals s command gained before after = refusals_as (command ≡ None) (λ made. IsAnswer command gained made before) (answer_of command gained before.shelf.content) s before after

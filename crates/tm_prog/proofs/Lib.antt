@@ -6,6 +6,7 @@ pub mod Traced
 pub mod Delivering
 pub mod Answering
 pub mod Consequences
+pub mod Watching
 pub mod ToldRuns
 pub mod RunEnds
 pub mod Told

@@ -58,6 +58,8 @@ ends_text (status.Dump fault) command gained before after text t e = let plain =
 ends_text (status.Point lost) command gained before after text t e = let plain = t.plain in let refused = e.0.2 t.tells in cc
 ends_text (status.Diverged found) command gained before after text t e = let plain = t.plain in let refused = e.0.2 t.tells in cc
 ends_text (status.TooLong file) command gained before after text t e = let plain = t.plain in let refused = e.0.2 t.tells in cc
+ends_text (status.Elf fault) command gained before after text t e = let plain = t.plain in let refused = e.0.2 t.tells in cc
+ends_text (status.NoTask number) command gained before after text t e = let plain = t.plain in let refused = e.0.2 t.tells in cc
 
 -- where the run can be replayed from the point
 from_accepted : (s : Status) (image : ImageView) (script : List Slice) (point : ℕ) (before after : World) →
@@ -73,6 +75,8 @@ from_accepted (status.Dump fault) image script point before after accepted t = a
 from_accepted (status.Point lost) image script point before after accepted t = absurd t
 from_accepted (status.Diverged found) image script point before after accepted t = absurd t
 from_accepted (status.TooLong file) image script point before after accepted t = absurd t
+from_accepted (status.Elf fault) image script point before after accepted t = absurd t
+from_accepted (status.NoTask number) image script point before after accepted t = absurd t
 
 -- the plain answer to the call is that the point is refused
 record IsLost (command : Option Command) (gained : Gained) (before : World) (lost : Lost) : Type 0 where
@@ -98,6 +102,8 @@ from_lost (status.Dump fault) command gained image script point before after los
 from_lost (status.Point other) command gained image script point before after lost not l e = not
 from_lost (status.Diverged found) command gained image script point before after lost not l e = let plain = l.plain in let refused = e.0.2 l.tells in cc
 from_lost (status.TooLong file) command gained image script point before after lost not l e = let plain = l.plain in let refused = e.0.2 l.tells in cc
+from_lost (status.Elf fault) command gained image script point before after lost not l e = let plain = l.plain in let refused = e.0.2 l.tells in cc
+from_lost (status.NoTask number) command gained image script point before after lost not l e = let plain = l.plain in let refused = e.0.2 l.tells in cc
 
 replay_is_text : (command : Option Command) (gained : Gained) (image : ImageView) (script : List Slice) (point : ℕ) (before : World) →
     IsTrue before.shelf.tells → IsReplayOf command before.shelf.content image script point → IsAccepted image (run image script) point →

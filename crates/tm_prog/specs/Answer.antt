@@ -4,7 +4,7 @@ use Rattle.std.specs.Prelude.{ℕ, List, Option, Some, None, Result, Err}
 use Rattle.tm_prog.specs.declared.status.Status.{Status}
 use Rattle.tm_prog.specs.declared.status.Status.TheVariants.{Words}
 use Rattle.tm_words.specs.declared.command.Command.{Command}
-use Rattle.tm_words.specs.declared.command.Command.TheVariants.{Trace, Record, Live, Points, Replay, Make}
+use Rattle.tm_words.specs.declared.command.Command.TheVariants.{Trace, Record, Live, Points, Replay, Make, Load}
 use Rattle.tm_prog.specs.Made.{MadeView}
 use Rattle.tm_prog.specs.Gained.{Gained}
 use Rattle.tm_prog.specs.TraceCommand.{trace_made}
@@ -13,6 +13,7 @@ use Rattle.tm_prog.specs.LiveCommand.{live_made}
 use Rattle.tm_prog.specs.PointsCommand.{points_made}
 use Rattle.tm_prog.specs.ReplayCommand.{replay_made}
 use Rattle.tm_prog.specs.MakeCommand.{make_made}
+use Rattle.tm_prog.specs.LoadCommand.{load_made}
 
 -- the answer to a command over the contents of files by name, where the files that it needs are there
 abbrev pub made_of : Command → Gained → (List ℕ → Option (List ℕ)) → Option (Result MadeView Status)
@@ -22,6 +23,7 @@ made_of (Live image plant dump slices len tape) gained content = live_made conte
 made_of (Points image dump) gained content = points_made content image dump
 made_of (Replay image dump point workers) gained content = replay_made content image dump point
 made_of (Make number) gained content = make_made number
+made_of (Load image task executable new) gained content = load_made content image task executable new
 
 -- the answer to the words of a call; words of no form are refused
 abbrev pub answer_of : Option Command → Gained → (List ℕ → Option (List ℕ)) → Option (Result MadeView Status)

@@ -8,13 +8,16 @@ use Rattle.tm_marker.specs.declared.entries.Slice.{Slice}
 use Rattle.tm_lines.specs.declared.fault.Fault.{Fault}
 use Rattle.tm_lines.specs.declared.fault.Reason.{Reason}
 use Rattle.tm_lines.specs.declared.fault.Reason.TheVariants as reason
-use Rattle.tm_image.specs.Image.{ImageView, image_of, shape_of}
+use Rattle.tm_image.specs.Image.{ImageView, Load, image_of, shape_of}
 use Rattle.tm_image.specs.Plan.{plan_of}
+use Rattle.tm_elf.specs.declared.fault.ElfFault.{ElfFault}
+use Rattle.tm_elf.specs.declared.fault.ElfFault.TheVariants as elf
+use Rattle.tm_elf.specs.Elf.{elf_of}
 use Rattle.tm_plant.specs.declared.plant.Act.{Act}
 use Rattle.tm_plant.specs.Plant.{plant_of}
 use Rattle.tm_prog.specs.declared.status.Status.{Status}
-use Rattle.tm_prog.specs.declared.status.Status.TheVariants.{Image, Plan, Dump, Memory}
-use Rattle.tm_prog.specs.declared.limits.TheConstants.{IMAGE_LIMIT, PLAN_LIMIT, DUMP_LIMIT}
+use Rattle.tm_prog.specs.declared.status.Status.TheVariants.{Image, Plan, Dump, Elf, Memory}
+use Rattle.tm_prog.specs.declared.limits.TheConstants.{IMAGE_LIMIT, PLAN_LIMIT, DUMP_LIMIT, ELF_LIMIT}
 use Rattle.tm_prog.specs.Reads.{file_in}
 
 -- the value of a text, or its refusal as a status
@@ -38,6 +41,11 @@ plant_said bytes = said Plan (plant_of bytes)
 abbrev pub window_said : ImageView → List ℕ → Result WindowView Status
 window_said image bytes = said Dump (window_in (shape_of image) bytes)
 
+-- what a task is loaded from by the executable that bytes are, with at least so many data words, or the
+-- refusal of the executable
+abbrev pub loaded_said : ℕ → List ℕ → Result Load Status
+loaded_said least bytes = said Elf (elf_of bytes least)
+
 -- the image in the first file
 abbrev pub image_in : Option (List ℕ) → Option (Result ImageView Status)
 image_in file = file_in IMAGE_LIMIT 1 image_said file
@@ -54,6 +62,10 @@ plant_in file = file_in PLAN_LIMIT 2 plant_said file
 abbrev pub window_file_in : ImageView → Option (List ℕ) → Option (Result WindowView Status)
 window_file_in image file = file_in DUMP_LIMIT 2 (window_said image) file
 
+-- what a task is loaded from by the executable in the second file
+abbrev pub loaded_in : ℕ → Option (List ℕ) → Option (Result Load Status)
+loaded_in least file = file_in ELF_LIMIT 2 (loaded_said least) file
+
 -- the status for an image's text that was refused, or for which there was no memory
 abbrev pub image_status : Fault → Reason → Status
 image_status fault reason.Memory = Memory
@@ -68,3 +80,8 @@ plan_status fault _ = Plan fault
 abbrev pub dump_status : DumpFault → Status
 dump_status dump.Memory = Memory
 dump_status fault = Dump fault
+
+-- the same for an executable
+abbrev pub elf_status : ElfFault → Status
+elf_status elf.Memory = Memory
+elf_status fault = Elf fault

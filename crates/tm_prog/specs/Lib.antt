@@ -11,10 +11,14 @@ pub mod LiveCommand
 pub mod PointsCommand
 pub mod ReplayCommand
 pub mod MakeCommand
+pub mod LoadCommand
 pub mod Answer
 pub mod World
 pub mod Outcome
 pub mod BenchEnds
+pub mod WatchCommand
+pub mod WatchEnds
+pub mod WatchRun
 pub mod LiveRoom
 pub mod RunDumps
 pub mod Teller

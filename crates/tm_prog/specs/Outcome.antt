@@ -1,5 +1,5 @@
 -- How a status, the plain answer and the world before and after a call belong together.
-use Rattle.std.specs.Prelude.{◌≡◌, ◌≢◌, ℕ, ◌⊎◌, List, Option, Some, None, Ok, IsTrue, All}
+use Rattle.std.specs.Prelude.{◌≡◌, ◌≢◌, ℕ, ◌⊎◌, List, Option, Some, None, Result, Ok, IsTrue, All}
 use Rattle.tm_io.specs.Counts.{Rose, counted}
 use Rattle.tm_prog.specs.declared.status.Status.{Status}
 use Rattle.tm_prog.specs.declared.status.Status.TheVariants.{Ok as OkStatus, Words, Memory}
@@ -18,14 +18,19 @@ IsAnswer None gained made before = ⊥
 IsAnswer (Some command) gained made before =
     IsMadeFor command made × (IsTrue before.shelf.tells → answer_of (Some command) gained before.shelf.content ≡ Some (Ok made))
 
--- all of the plain answer was done; or a part of it, up to a put or a write that failed; the words ask for
--- nothing, and nothing changed; or nothing was made, and at most a failed get was counted
+-- all of what answers was done; or a part of it, up to a put or a write that failed; the words ask for
+-- nothing, and nothing changed; or nothing was made, by what the files say, and at most a failed get was counted
+abbrev pub EndsAs : {A : Type 0} → Type 0 → (MadeView → Type 0) → Option (Result A Status) → Class → Status → World → World → Type 0
+EndsAs unasked answers plain Done status before after = (made : MadeView) × answers made × (after ≡ all_done made before)
+EndsAs unasked answers plain HalfDone status before after = (made : MadeView) × answers made × IsHalfDone made before after
+EndsAs unasked answers plain Unasked status before after = (after ≡ before) × unasked × (status ≡ Words)
+EndsAs unasked answers plain class status before after =
+    IsUnmade class status plain before.shelf after.shelf × (after.sink ≡ before.sink)
+
+-- so does a call that was asked for a command
 abbrev pub Ends : Class → Status → Option Command → Gained → World → World → Type 0
-Ends Done status command gained before after = (made : MadeView) × IsAnswer command gained made before × (after ≡ all_done made before)
-Ends HalfDone status command gained before after = (made : MadeView) × IsAnswer command gained made before × IsHalfDone made before after
-Ends Unasked status command gained before after = (after ≡ before) × (command ≡ None) × (status ≡ Words)
 Ends class status command gained before after =
-    IsUnmade class status (answer_of command gained before.shelf.content) before.shelf after.shelf × (after.sink ≡ before.sink)
+    EndsAs (command ≡ None) (λ made. IsAnswer command gained made before) (answer_of command gained before.shelf.content) class status before after
 
 -- the counts of the shelf's gets and puts and of the sink's faults are as before
 pub record CountsStay (before after : World) : Type 0 where
@@ -62,11 +67,14 @@ pub record Stays (before after : World) : Type 0 where
   pub rooms : after.shelf.room ≡ before.shelf.room
   pub sink_calm : after.sink.calm ≡ before.sink.calm
 
--- the contents under all names stay, but for those that the command puts
+-- the contents under all names stay, but for these
+abbrev pub OnlyThese : List (List ℕ) → World → World → Type 0
+OnlyThese names before after = (name : List ℕ) → All (λ put. name ≢ put) names → after.shelf.content name ≡ before.shelf.content name
+
+-- but for those that the command puts
 abbrev pub OthersStay : Option Command → World → World → Type 0
 OthersStay None before after = after.shelf.content ≡ before.shelf.content
-OthersStay (Some command) before after =
-    (name : List ℕ) → All (λ put. name ≢ put) (names_put command) → after.shelf.content name ≡ before.shelf.content name
+OthersStay (Some command) before after = OnlyThese (names_put command) before after
 
 -- the words ask for no text
 abbrev pub IsSilent : Option Command → Type 0

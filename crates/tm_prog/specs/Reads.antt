@@ -2,6 +2,7 @@
 use Rattle.std.specs.Prelude.{◌≡◌, ◌≢◌, ℕ, ◌⊎◌, List, length, nat_le, if◌then◌else◌, Option, Some, None, Result, Ok, Err, IsTrue}
 use Rattle.tm_lines.specs.declared.fault.Reason.TheVariants as reason
 use Rattle.tm_dump.specs.declared.fault.DumpFault.TheVariants as dump
+use Rattle.tm_elf.specs.declared.fault.ElfFault.TheVariants as elf
 use Rattle.tm_io.specs.Shelf.{ShelfView, get_failed}
 use Rattle.tm_prog.specs.declared.status.Status.{Status}
 use Rattle.tm_prog.specs.declared.status.Status.TheVariants as status
@@ -26,6 +27,7 @@ CanRefuse (status.TooLong file) = (file ≡ 1) ⊎ (file ≡ 2)
 CanRefuse (status.Image fault) = fault.reason ≢ reason.Memory
 CanRefuse (status.Plan fault) = fault.reason ≢ reason.Memory
 CanRefuse (status.Dump fault) = fault ≢ dump.Memory
+CanRefuse (status.Elf fault) = fault ≢ elf.Memory
 CanRefuse _ = Unit {0}
 
 -- nothing is made, and why: a get failed, though not of a file that was there on a calm shelf; memory was

@@ -6,6 +6,9 @@ use Rattle.tm_lines.specs.declared.fault.Reason.TheVariants as reason
 use Rattle.tm_spelling.specs.Lines.{marker_text}
 use Rattle.tm_dump.specs.declared.fault.DumpFault.{DumpFault}
 use Rattle.tm_dump.specs.declared.fault.DumpFault.TheVariants as dump
+use Rattle.tm_elf.specs.declared.fault.ElfFault.{ElfFault}
+use Rattle.tm_elf.specs.declared.fault.ElfFault.TheVariants as elf
+use Rattle.tm_elf.specs.Faults.{why_number}
 use Rattle.tm_points.specs.declared.finder.Lost.{Lost}
 use Rattle.tm_points.specs.declared.finder.Lost.TheVariants as lost
 use Rattle.tm_system.specs.declared.diverged.Diverged.{Diverged}
@@ -27,6 +30,8 @@ code_of (status.Diverged found) = 8
 code_of status.WriteFault = 9
 code_of (status.TooLong file) = 10
 code_of status.Memory = 11
+code_of (status.Elf fault) = 13
+code_of (status.NoTask task) = 14
 
 -- the name of a reason
 abbrev pub reason_name : Reason → List ℕ
@@ -52,6 +57,15 @@ dump_text (dump.OtherImage found wanted) = codes "other image"
 dump_text (dump.Field place) = codes "field " ++ decimal place
 dump_text (dump.Extra place) = codes "extra " ++ decimal place
 dump_text dump.Memory = codes "memory"
+
+-- what is wrong with an executable
+abbrev pub elf_text : ElfFault → List ℕ
+elf_text (elf.Short needed length) = codes "short " ++ decimal needed ++ codes " " ++ decimal length
+elf_text (elf.Field place) = codes "field " ++ decimal place
+elf_text (elf.Segment index why) = codes "segment " ++ decimal index ++ codes " " ++ decimal (why_number why)
+elf_text elf.NoText = codes "no text"
+elf_text (elf.Entry value) = codes "entry " ++ decimal value
+elf_text elf.Memory = codes "memory"
 
 -- what is lost of a point
 abbrev pub lost_text : Lost → List ℕ
@@ -96,6 +110,8 @@ line_of (status.Dump fault) = codes "tm: dump " ++ dump_text fault ++ 10 ∷ []
 line_of (status.Point missing) = codes "tm: point " ++ lost_text missing ++ 10 ∷ []
 line_of (status.Diverged found) = diverged_line found
 line_of (status.TooLong file) = codes "tm: too long " ++ decimal file ++ 10 ∷ []
+line_of (status.Elf fault) = codes "tm: elf " ++ elf_text fault ++ 10 ∷ []
+line_of (status.NoTask task) = codes "tm: no task " ++ decimal task ++ 10 ∷ []
 line_of status.WriteFault = codes "tm: write fault" ++ 10 ∷ []
 line_of status.Memory = codes "tm: memory" ++ 10 ∷ []
 
@@ -107,6 +123,8 @@ is_numbered (status.Dump fault) = true
 is_numbered (status.Point missing) = true
 is_numbered (status.Diverged found) = true
 is_numbered (status.TooLong file) = true
+is_numbered (status.Elf fault) = true
+is_numbered (status.NoTask task) = true
 is_numbered status.Ok = false
 is_numbered status.Words = false
 is_numbered status.ReadFault = false

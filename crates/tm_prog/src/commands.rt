@@ -10,6 +10,7 @@ ghost use Rattle.tm_prog.specs.MadeFor.{IsMadeFor};
 ghost use Rattle.tm_prog.specs.Reads.{Reads};
 
 mod live;
+mod load;
 mod make;
 mod points;
 mod record;
@@ -70,5 +71,11 @@ pub(crate) fn made_of<'a, F: Shelf, G: Gate>(
             workers,
         } => replay::replay(rt, alloc, shelf, image, dump, *from, *workers, gate),
         Command::Make { number } => make::make(rt, alloc, *number, gate),
+        Command::Load {
+            image,
+            task,
+            executable,
+            new,
+        } => load::load(alloc, shelf, image, *task, executable, new),
     }
 }

@@ -1,15 +1,18 @@
 //! How the files that a call names are got and read.
 
 ghost use Rattle.std.specs.Prelude.{◌≡◌, ℕ, ◌^◌, ◌<◌, ◌≤◌, List, Result, length, IfOk};
+ghost use Rattle.tm_marker.specs.declared.shape.TheConstants.{MOST_WORDS};
 ghost use Rattle.tm_prog.specs.declared.status.Status.{Status};
-ghost use Rattle.tm_prog.specs.Files.{image_status, plan_status, dump_status};
+ghost use Rattle.tm_prog.specs.Files.{image_status, plan_status, dump_status, elf_status};
 ghost use Rattle.tm_prog.specs.Reads.{CanRefuse, Reads, Says, file_in};
 
 use crate::Status;
-use crate::limits::{DUMP_LIMIT, IMAGE_LIMIT, PLAN_LIMIT};
+use crate::limits::{DUMP_LIMIT, ELF_LIMIT, IMAGE_LIMIT, PLAN_LIMIT};
 use std::alloc::Global;
+use std::marker::Model;
 use tm_dump::{DumpFault, read_dump};
-use tm_image::{Image, ImageFault, Plan, PlanFault, Reason, read_image, read_plan};
+use tm_elf::{ElfFault, read_elf};
+use tm_image::{Image, ImageFault, Loaded, Plan, PlanFault, Reason, read_image, read_plan};
 use tm_io::{GetFault, Shelf};
 use tm_log::Window;
 use tm_plant::{Plant, read_plant};
@@ -61,6 +64,16 @@ fn dump_status(fault: DumpFault) -> Status
     match fault {
         DumpFault::Memory => Status::Memory,
         _ => Status::Dump(fault),
+    }
+}
+
+/// The status for an executable that was not read.
+fn elf_status(fault: ElfFault) -> Status
+    ensures { result ≡ elf_status fault }
+{
+    match fault {
+        ElfFault::Memory => Status::Memory,
+        _ => Status::Elf(fault),
     }
 }
 
@@ -138,6 +151,50 @@ impl FileKind<Image> for Window {
             Ok(window) => Ok(window),
             Err(fault) => Err(dump_status(fault)),
         }
+    }
+}
+
+/// How many data words a task has at least, 1 to 16,384.
+#[derive(Debug, Drop)]
+pub(crate) struct LeastWords(u32);
+
+impl Model for LeastWords {
+    ghost use Rattle.std.specs.Prelude.{ℕ, ◌≤◌};
+    ghost use Rattle.tm_marker.specs.declared.shape.TheConstants.{MOST_WORDS};
+
+    ghost Value = { ℕ };
+
+    ghost view = { λ least. least.0 };
+
+    ghost invariant = { λ least. (1 ≤ least.0) × (least.0 ≤ MOST_WORDS) };
+}
+
+impl LeastWords {
+    pub(crate) fn new(words: u32) -> LeastWords
+        requires some { 1 ≤ words }
+        requires few { words ≤ MOST_WORDS }
+        ensures { result ≡ words }
+    {
+        LeastWords(words)
+    }
+}
+
+// An executable is read beside the number of data words that its task has at least.
+impl FileKind<LeastWords> for Loaded {
+    ghost use Rattle.tm_image.specs.Image.{IsLoad};
+    ghost use Rattle.tm_prog.specs.declared.limits.TheConstants.{ELF_LIMIT};
+    ghost use Rattle.tm_prog.specs.Files.{loaded_said};
+
+    ghost LIMIT = { ELF_LIMIT };
+
+    const LIMIT: u64 = ELF_LIMIT;
+
+    ghost reading = { loaded_said };
+
+    ghost sound = { λ _. IsLoad };
+
+    fn read(alloc: Global, least: &LeastWords, bytes: &[u8]) -> Result<Loaded, Status> {
+        read_elf(alloc, bytes, least.0).map_err(elf_status)
     }
 }
 

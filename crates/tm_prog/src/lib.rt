@@ -22,6 +22,7 @@ ghost use Rattle.tm_prog.specs.World.{world, IsReady};
 ghost use Rattle.tm_prog.specs.RunDumps.{IsReplayOf, ReplaysRun, IsListOf, ListsRun};
 ghost use Rattle.tm_prog.specs.Outcome.{Ends, Counts, Stays, OthersStay, IsSilent, IsDone, NoneRose};
 
+mod closing;
 mod commands;
 mod deliver;
 mod digits;
@@ -30,21 +31,23 @@ mod files;
 mod limits;
 mod live_room;
 mod made;
-mod record;
 mod status;
 mod teller;
 mod trace;
 mod views;
+mod watch_call;
+mod watch_run;
 
 use commands::made_of;
 use deliver::deliver;
-pub use limits::{DUMP_LIMIT, IMAGE_LIMIT, PLAN_LIMIT, limits_are, run_dumps_fit};
+pub use limits::{DUMP_LIMIT, ELF_LIMIT, IMAGE_LIMIT, PLAN_LIMIT, limits_are, run_dumps_fit};
 pub use status::Status;
 use std::alloc::Global;
 use std::thread::Threads;
 use tm_io::{Gate, Shelf, Sink};
 use tm_irq::Bench;
 use tm_words::{Command, command_of};
+pub use watch_call::watch;
 
 /// Does what the words ask for: gets the files that they name, puts what is to be put, and writes the text
 /// that answers.

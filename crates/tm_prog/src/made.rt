@@ -1,10 +1,38 @@
 //! What a command makes, whole before any of it is put or written.
 
-ghost use Rattle.std.specs.Prelude.{◌≡◌, [], ◌∷◌, IfOk};
+ghost use Rattle.std.specs.Prelude.{◌≡◌, [], ◌∷◌, IfOk, string_bytes};
 
 use std::alloc::{AllocError, Global};
 use std::marker::Model;
 use tm_words::Name;
+
+/// The name of a file that a command makes up.
+#[derive(Drop)]
+pub(crate) struct PutName {
+    text: String,
+}
+
+impl Model for PutName {
+    ghost use Rattle.std.specs.Prelude.{ℕ, List, string_bytes};
+
+    ghost Value = { List ℕ };
+
+    ghost view = { λ name. string_bytes name.text };
+}
+
+impl PutName {
+    pub(crate) fn new(text: String) -> PutName
+        ensures { result ≡ string_bytes text }
+    {
+        PutName { text }
+    }
+
+    pub(crate) fn text(&self) -> &str
+        ensures { result.now ≡ self.now }
+    {
+        self.text.as_str()
+    }
+}
 
 /// Bytes to put under a name.
 #[derive(Drop)]
@@ -23,6 +51,16 @@ impl<'a> Model for Put<'a> {
 
 impl<'a> Put<'a> {
     pub(crate) fn new(name: &'a Name, bytes: Vec<u8>) -> Put<'a>
+        ensures { result ≡ record { name = name.now; bytes = bytes.items } }
+    {
+        Put {
+            name: name.text(),
+            bytes,
+        }
+    }
+
+    /// Under a name that a command made up.
+    pub(crate) fn under(name: &'a PutName, bytes: Vec<u8>) -> Put<'a>
         ensures { result ≡ record { name = name.now; bytes = bytes.items } }
     {
         Put {

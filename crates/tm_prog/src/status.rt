@@ -8,6 +8,7 @@ ghost use Rattle.tm_spelling.specs.Lines.{digit, hex8, marker_text};
 use crate::digits::put_decimal;
 use std::alloc::{AllocError, Global};
 use tm_dump::DumpFault;
+use tm_elf::ElfFault;
 use tm_image::{ImageFault, PlanFault, Reason};
 use tm_marker::Marker;
 use tm_points::Lost;
@@ -38,6 +39,10 @@ pub enum Status {
     TooLong(u8),
     /// Want of memory.
     Memory,
+    /// The bytes are no executable that a task can be loaded from.
+    Elf(ElfFault),
+    /// The image has no task of this number.
+    NoTask(u8),
 }
 
 impl Status {
@@ -57,6 +62,8 @@ impl Status {
             Status::WriteFault => 9,
             Status::TooLong(_) => 10,
             Status::Memory => 11,
+            Status::Elf(_) => 13,
+            Status::NoTask(_) => 14,
         }
     }
 
@@ -76,7 +83,9 @@ impl Status {
             | Status::Dump(_)
             | Status::Point(_)
             | Status::Diverged(_)
-            | Status::TooLong(_) => None,
+            | Status::TooLong(_)
+            | Status::Elf(_)
+            | Status::NoTask(_) => None,
         }
     }
 
@@ -92,6 +101,8 @@ impl Status {
             Status::Point(missing) => point_line(missing, into),
             Status::Diverged(found) => diverged_line(found, into),
             Status::TooLong(file) => too_long_line(*file, into),
+            Status::Elf(fault) => elf_line(fault, into),
+            Status::NoTask(task) => no_task_line(*task, into),
             _ => into.extend_from_slice(self.fixed_line().unwrap_or_default()),
         }
     }
@@ -244,6 +255,38 @@ fn too_long_line(file: u8, into: &mut Vec<u8>) -> Result<(), AllocError>
 {
     let alloc = *into.allocator();
     let line = format!(in alloc; "tm: too long {file}\n")?;
+    into.extend_from_slice(line.as_bytes())
+}
+
+/// Appends the line of [`Status::Elf`].
+fn elf_line(fault: &ElfFault, into: &mut Vec<u8>) -> Result<(), AllocError>
+    ensures ok { OnOk result (into.new.items ≡ into.old.items ++ line_of (Status.Elf fault.now)) }
+    ensures err { OnErr result (into.new.items ≡ into.old.items) }
+{
+    let alloc = *into.allocator();
+    let line = match fault {
+        ElfFault::NoText => return into.extend_from_slice(b"tm: elf no text\n"),
+        ElfFault::Memory => return into.extend_from_slice(b"tm: elf memory\n"),
+        ElfFault::Short { needed, length } => {
+            format!(in alloc; "tm: elf short {needed} {length}\n")?
+        }
+        ElfFault::Field { place } => format!(in alloc; "tm: elf field {place}\n")?,
+        ElfFault::Segment { index, why } => {
+            let why = why.number();
+            format!(in alloc; "tm: elf segment {index} {why}\n")?
+        }
+        ElfFault::Entry { value } => format!(in alloc; "tm: elf entry {value}\n")?,
+    };
+    into.extend_from_slice(line.as_bytes())
+}
+
+/// Appends the line of [`Status::NoTask`].
+fn no_task_line(task: u8, into: &mut Vec<u8>) -> Result<(), AllocError>
+    ensures ok { OnOk result (into.new.items ≡ into.old.items ++ line_of (Status.NoTask task)) }
+    ensures err { OnErr result (into.new.items ≡ into.old.items) }
+{
+    let alloc = *into.allocator();
+    let line = format!(in alloc; "tm: no task {task}\n")?;
     into.extend_from_slice(line.as_bytes())
 }
 

@@ -1,10 +1,11 @@
 //! A call of `tm` over an image and a plan in memory.
 
 use std::alloc::{AllocError, Global};
+use std::sync::Wait;
 use std::thread::Threads;
 use tm_io::{Gate, MemShelf, MemSink, Open};
 use tm_irq::Bench;
-use tm_prog::{Status, tm};
+use tm_prog::{Status, tm, watch};
 
 /// The words of a call.
 fn words(alloc: Global, words: &[&str]) -> Result<Vec<String>, AllocError> {
@@ -61,4 +62,18 @@ pub fn trace(
     sink: &mut MemSink,
 ) -> Result<Status, AllocError> {
     call(rt, alloc, &["trace", "i", "p"], shelf, sink)
+}
+
+/// A call that is asked to watch, at a new bench of eight devices, with threads that wait at a gate.
+pub fn watch_past<R: Threads + Wait + Sync, G: Gate>(
+    rt: &R,
+    alloc: Global,
+    asked: &[&str],
+    shelf: &mut MemShelf,
+    sink: &mut MemSink,
+    gate: &G,
+) -> Result<Status, AllocError> {
+    let words = words(alloc, asked)?;
+    let mut bench = Bench::new(alloc, 8)?;
+    Ok(watch(rt, alloc, &words, shelf, sink, &mut bench, gate))
 }

@@ -14,8 +14,12 @@ mod large_runs;
 #[cfg(test)]
 mod live;
 #[cfg(test)]
+mod load;
+#[cfg(test)]
 mod statuses;
 #[cfg(test)]
 mod texts;
+#[cfg(test)]
+mod watch;
 #[cfg(test)]
 mod workers;

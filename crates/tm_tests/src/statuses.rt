@@ -1,6 +1,7 @@
 //! The line and the number of each status.
 
 use std::test::Fail;
+use tm_elf::{ElfFault, Why};
 use tm_image::{ImageFault, PlanFault, Reason};
 use tm_prog::Status;
 
@@ -24,12 +25,24 @@ fn each_status_but_ok_has_its_line(rt: HostRuntime) -> Result<(), Fail> {
         Status::WriteFault,
         Status::TooLong(2),
         Status::Memory,
+        Status::Elf(ElfFault::Short {
+            needed: 52,
+            length: 51,
+        }),
+        Status::Elf(ElfFault::Field { place: 18 }),
+        Status::Elf(ElfFault::Segment {
+            index: 63,
+            why: Why::Overlap,
+        }),
+        Status::Elf(ElfFault::NoText),
+        Status::Elf(ElfFault::Entry { value: 65_538 }),
+        Status::NoTask(15),
     ] {
         status.line(&mut lines)?;
     }
     assert_eq!(rt;
         lines.as_slice(),
-        b"tm: words\ntm: read fault\ntm: image line 4294967295 repeated\ntm: plan line 2 form\ntm: write fault\ntm: too long 2\ntm: memory\n".as_slice()
+        b"tm: words\ntm: read fault\ntm: image line 4294967295 repeated\ntm: plan line 2 form\ntm: write fault\ntm: too long 2\ntm: memory\ntm: elf short 52 51\ntm: elf field 18\ntm: elf segment 63 4\ntm: elf no text\ntm: elf entry 65538\ntm: no task 15\n".as_slice()
     );
     Ok(())
 }
@@ -44,4 +57,6 @@ fn each_status_has_its_number(rt: HostRuntime) {
     assert_eq!(rt; Status::WriteFault.code(), 9);
     assert_eq!(rt; Status::TooLong(1).code(), 10);
     assert_eq!(rt; Status::Memory.code(), 11);
+    assert_eq!(rt; Status::Elf(ElfFault::NoText).code(), 13);
+    assert_eq!(rt; Status::NoTask(0).code(), 14);
 }

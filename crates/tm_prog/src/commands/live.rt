@@ -18,6 +18,7 @@ ghost use Rattle.tm_prog.specs.MadeFor.{tape_name};
 ghost use Rattle.tm_prog.specs.Reads.{Reads};
 
 use crate::Status;
+use crate::closing::close;
 use crate::files::read_file;
 use crate::live_room::{LiveRoom, LiveRun, put_audit, put_dump, put_tape};
 use crate::made::{Made, Put};
@@ -143,7 +144,7 @@ fn run_beside<G: Gate>(
 {
     plant.attest();
     drive(rt, bench, recorder, plant, slices, len, tape, gate);
-    bench.close()
+    close(bench)
 }
 
 /// What a run has made, by its recorder, its tape and its audit.

@@ -7,10 +7,10 @@ ghost use Rattle.tm_prog.specs.Reads.{Reads};
 use crate::Status;
 use crate::files::read_file;
 use crate::made::Made;
-use crate::record::record_run;
 use std::alloc::Global;
 use tm_image::{Image, Plan};
 use tm_io::Shelf;
+use tm_run_dump::run_dump;
 use tm_words::Name;
 
 /// Makes the dump of the whole run of the plan on the image.
@@ -33,7 +33,7 @@ pub(crate) fn record<'a, F: Shelf>(
         Ok(plan) => plan,
         Err(status) => return Err(status),
     };
-    match record_run(alloc, image, &plan) {
+    match run_dump(alloc, image, plan.slices()) {
         Ok(bytes) => Made::put_alone(alloc, dump, bytes).map_err(|_| Status::Memory),
         Err(_) => Err(Status::Memory),
     }

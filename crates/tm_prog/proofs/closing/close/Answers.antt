@@ -1,9 +1,9 @@
 use Rattle.std.proofs.Common.{subst, sym}
 use Rattle.tm_prog.specs.BenchEnds.{IsAuditOf}
-use Rattle.tm_prog.proofs.commands.live.run_beside.Goals as goal
+use Rattle.tm_prog.proofs.closing.close.Goals as goal
 
 pub returns-clause-closed : goal.returns-clause-closed
-returns-clause-closed g c =
+returns-clause-closed c =
     let close = c.close.ensures in record {
       shut = close.shut;
       closed = close.closed;
