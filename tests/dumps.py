@@ -58,6 +58,22 @@ def decode(dump, words, caps):
     return fields
 
 
+def lists_of(fields):
+    """The lists of a dump that a run only adds to, in a fixed order."""
+    return [fields.control, fields.outputs, *fields.logs, *fields.checks]
+
+
+def is_beginning(part, whole):
+    """The lists of the first dump have no more items than those of the second, and the same under each number that both
+    have kept."""
+    for mine, others in zip(lists_of(part), lists_of(whole)):
+        first = max(mine.total - len(mine.items), others.total - len(others.items))
+        both = [kept.items[first - kept.total + len(kept.items) :] for kept in (mine, others)]
+        if mine.total > others.total or both[0] != both[1][: len(both[0])]:
+            return False
+    return True
+
+
 def marker(token):
     epoch, count, pc = token.split(".")
     return int(epoch), int(count), int(pc, 16)

@@ -12,7 +12,8 @@ sys.dont_write_bytecode = True
 
 import shared
 
-COMMANDS = ("trace", "record", "live", "points", "replay", "make", "puts", "faults", "edge", "information", "pages", "hostile")
+COMMANDS = ("trace", "record", "live", "watch", "points", "replay", "make", "load", "compiled")
+COMMANDS += ("puts", "faults", "edge", "information", "pages", "hostile")
 
 
 def main():

@@ -1,9 +1,10 @@
 #!/usr/bin/env python3
-"""Images, plans, plants, dumps and words that nobody would write, given to the built program over real files. No model says
-what is to come; what holds of every call is checked: it ends in time with a status and a line of docs/messages.md,
-prints nothing beside a line, changes no file but those that it puts, and does the same again. A run that is accepted
-is recorded, listed, and replayed from its points to the end of its own trace, also one beside devices, by its tape; a
-dump with any byte changed is refused.
+"""Images, plans, plants, executables, dumps and words that nobody would write, given to the built program over real
+files. No model says what is to come; what holds of every call is checked: it ends in time with a status and a line of
+docs/messages.md, prints nothing beside a line, changes no file but those that it puts, and does the same again. A run
+that is accepted is recorded, listed, and replayed from its points to the end of its own trace, also one beside devices,
+by its tape; so is one of an image that was put. What observers saw are beginnings of one run. A dump with any byte
+changed is refused.
 
 Usage: hostile.py SEED MINUTES, by hand; or hostile.py SEED ROUND, with a round of the form rN, for one round again.
 A failure names its seed and round."""
@@ -20,7 +21,7 @@ import time
 sys.dont_write_bytecode = True
 
 from changed_dumps import sealed
-from dumps import decode, shape_of
+from dumps import decode, is_beginning, shape_of
 from finder import accepted, text_from
 from shared import program, read, top, write
 
@@ -35,14 +36,18 @@ LINES = {
     7: r"tm: point (unknown \d+|control \d+|check \d+ \d+|data \d+ \d+ \d+)",
     8: rf"tm: diverged at \d+ task \d+ reached {MARKER} wanted {MARKER} "
     r"(passed|moved|faulted|no fault|no entry|other service|left|other output)",
+    13: r"tm: elf (short \d+ \d+|field \d+|segment \d+ [1-4]|no text|entry \d+)",
+    14: r"tm: no task \d+",
 }
 NUMBERS = (
     "0 1 2 3 4 5 7 8 15 16 17 63 64 65 255 256 4095 16384 16385 65535 65536 65537 4294967295 4294967296 0x0 0xffff -1"
 ).split()
+EDGES = (0, 1, 2, 4, 8, 52, 64, 65, 116, 0xFFFC, 0xFFFF, 0x10000, 0xFFFFFFF, 0x10000000, 0x1000FFFC, 0x10010000, 2**32 - 1)
 WORDS = (
-    "trace record live points replay make --from --from= --from=0 --workers --workers= --workers=2 --slices --slices=2 "
-    "--len= --len=3 --tape --tape=tape --help --version -- - ="
+    "trace record live watch points replay make load --from --from= --from=0 --workers --workers= --workers=2 --slices "
+    "--slices=2 --len= --len=3 --tape --tape=tape --observers --observers=2 --looks= --looks=3 --help --version -- - ="
 ).split()
+EXECUTABLES = [f"{top}/examples/c/{way}/{task}" for way in ("apart", "whole") for task in ("control", "entry")]
 PLANT = b"""tmplant 1
 device 0
 device 1
@@ -53,6 +58,8 @@ raise 1 0 3
 set 1 3 4294967295
 """
 LIVE = ("live", "image", "plant", "dump", "--slices=20", "--len=10", "--tape=tape")
+WATCH = ("watch", "image", "plant", "seen", "--slices=20", "--len=10", "--observers=2", "--looks=5")
+SEEN = ("seen.0", "seen.1", "seen.end")
 MOST_INSTRUCTIONS, IN_TIME = 200_000, 120
 
 
@@ -103,6 +110,10 @@ def put_by(words):
     """The names under which a call puts that ends well."""
     if words == LIVE:
         return ("dump", "tape")
+    if words == WATCH:
+        return SEEN
+    if words[:1] == ("load",):
+        return words[4:5]
     return words[3:4] if words[:1] == ("record",) else ()
 
 
@@ -162,6 +173,14 @@ def changed_bits(chance, content):
     return bytes(content)
 
 
+def changed_executable(chance, content):
+    """An executable with another number in its head or in a header, or with other bytes."""
+    if chance.random() < 0.3:
+        return changed_bytes(chance, content)
+    place, size = chance.choice([(16, 2), (18, 2), (42, 2), (44, 2), *((place, 4) for place in range(20, 116, 4))])
+    return content[:place] + chance.choice(EDGES).to_bytes(4, "little")[:size] + content[place + size :]
+
+
 def is_short(plan):
     """The instructions of a plan are few, as far as it can be read."""
     lengths = re.findall(rb"\bslice\s+(?:0x([0-9a-fA-F]{1,8})|(\d{1,10}))", plan)
@@ -194,18 +213,57 @@ def play_plant(case, pairs):
     (image, other), plant = case.chance.choice(pairs), PLANT
     for _ in range(case.chance.randrange(4)):
         plant = changed_text(case.chance, plant, other)
-    for name, content in (("image", image), ("plant", plant), ("dump", b"old"), ("tape", b"old")):
+    for name, content in (("image", image), ("plant", plant), *((name, b"old") for name in ("dump", "tape", *SEEN))):
         write(os.path.join(case.folder, name), content)
     status, text = case.call(*LIVE)
     if status:
-        if case.call(*LIVE) != (status, text):
-            raise Wrong(f"live: {text}, and then another answer")
+        if not case.call(*LIVE) == case.call(*WATCH) == (status, text):
+            raise Wrong(f"live: {text}, and then another answer, or one of watch")
         return
+    play_watch(case, image)
     put = read(os.path.join(case.folder, "dump"))
     recorded = case.call("record", "image", "tape", "dump")
     if recorded[0] or read(os.path.join(case.folder, "dump")) != put:
         raise Wrong(f"the tape gives another dump: {recorded}")
     play_run(case, image, case.call("trace", "image", "tape")[1])
+
+
+def play_watch(case, image):
+    """The same beside observers: what each saw begins the run, and is replayed from the points that it has all of."""
+    if case.call(*WATCH)[0]:
+        raise Wrong("watch refuses what live does")
+    words, caps = shape_of(image)
+    *parts, whole = [decode(read(os.path.join(case.folder, name)), words, caps) for name in SEEN]
+    if not all(is_beginning(part, whole) for part in parts):
+        raise Wrong("a dump that doesn't begin the run")
+    for name, fields in zip(SEEN, [*parts, whole]):
+        points = accepted(fields)
+        if case.call("points", "image", name) != (0, "".join(f"{point}\n" for point in points).encode()):
+            raise Wrong(f"{name}: other points")
+        for point in {*points[:1], *points[-1:]}:
+            if case.call("replay", "image", name, "--from", str(point))[0]:
+                raise Wrong(f"{name}: no replay from {point}")
+
+
+def play_executable(case, pairs):
+    """A changed executable for a task of an image. What is put is an image, whose run goes on as any other, and in which
+    the same executable changes nothing."""
+    (image, plan), task = case.chance.choice(pairs), str(case.chance.randrange(4))
+    content = read(case.chance.choice(EXECUTABLES))
+    for _ in range(case.chance.randrange(4)):
+        content = changed_executable(case.chance, content)
+    for name, given in (("image", image), ("plan", plan), ("file", content), ("new", b"old"), ("dump", b"old")):
+        write(os.path.join(case.folder, name), given)
+    if case.twice("load", "image", task, "file", "new")[0]:
+        return
+    put = read(os.path.join(case.folder, "new"))
+    loaded = case.call("load", "new", task, "file", "image")
+    if loaded[0] or read(os.path.join(case.folder, "image")) != put:
+        raise Wrong(f"the same executable gives another image: {loaded}")
+    status, text = case.twice("trace", "image", "plan")
+    if status or case.call("record", "image", "plan", "dump")[0]:
+        raise Wrong(f"the image that was put: {text}")
+    play_run(case, put, text)
 
 
 def play_run(case, image, text):
@@ -245,7 +303,7 @@ def play_words(case, pairs):
         write(os.path.join(case.folder, name), content)
     choices = [*WORDS, *NUMBERS, "image", "plan", "dump", "missing", ""]
     words = [case.chance.choice(choices) for _ in range(case.chance.randrange(7))]
-    if words[:1] not in (["record"], ["make"]):
+    if words[:1] not in (["record"], ["make"], ["load"]):
         case.twice(*words)
 
 
@@ -255,7 +313,8 @@ def play(seed, number, pairs):
         case = Case(seed, number, folder)
         try:
             chance = case.chance.random()
-            (play_words if chance < 0.2 else play_plant if chance < 0.4 else play_texts)(case, pairs)
+            kinds = ((0.2, play_words), (0.4, play_plant), (0.5, play_executable), (1, play_texts))
+            next(kind for share, kind in kinds if chance < share)(case, pairs)
         except (Wrong, OSError, struct.error, LookupError, ValueError) as wrong:
             return [f"seed {seed}, round {number}: {wrong!r}"]
     return []

@@ -1,6 +1,7 @@
 """The edge of every command over real files: standard output that takes nothing, files that are none, names as long as
 can be. Each call gets its line and status, and every file that stood there stands there still."""
 import fcntl
+import glob
 import os
 import resource
 import signal
@@ -12,6 +13,7 @@ from shared import check, equal, examples, expect, program, read, write
 
 IMAGE = os.path.join(examples, "cell", "cell.tmi")
 PLAN = os.path.join(examples, "cell", "cell.tmplan")
+EXECUTABLE = os.path.join(examples, "c", "apart", "control")
 NOBODY = 65534
 READ_FAULT, WRITE_FAULT = (3, b"tm: read fault\n"), (9, b"tm: write fault\n")
 
@@ -23,10 +25,18 @@ def live(folder, dump="live.dump"):
     return ["live", IMAGE, plant, os.path.join(folder, dump), "--slices=5", "--len=9"]
 
 
+def watch(folder, prefix="seen"):
+    """A call of `watch` without devices; a prefix without a path stands in the folder."""
+    return ["watch", *live(folder)[1:3], os.path.join(folder, prefix), "--slices=5", "--len=9", "--observers=2", "--looks=2"]
+
+
 def printing(folder, dump):
-    """A call of each command that prints."""
+    """A call of each command that prints; what some put as well goes to a device that takes all."""
+    for name in ("null.0", "null.1", "null.end"):
+        os.symlink("/dev/null", os.path.join(folder, name))
     return [
         live(folder, "/dev/null"),
+        watch(folder, "null"),
         ["trace", IMAGE, PLAN],
         ["points", IMAGE, dump],
         ["replay", IMAGE, dump, "--from", "0"],
@@ -34,6 +44,11 @@ def printing(folder, dump):
         ["--help"],
         ["--version"],
     ]
+
+
+def load(folder, new="no.tmi"):
+    """A call of `load`; the new image stands in the folder where its name has no path."""
+    return ["load", IMAGE, "1", EXECUTABLE, os.path.join(folder, new)]
 
 
 def ended(words, **options):
@@ -95,7 +110,7 @@ def check_closed(folder, dump):
 
 
 def check_files(folder, dump):
-    """A first and a second file that can't be read, for each command that reads two."""
+    """A first and a second file that can't be read, for each command that reads two; nothing is put."""
     fifo, closed = os.path.join(folder, "fifo"), os.path.join(folder, "closed")
     os.mkfifo(fifo)
     write(closed, b"tmi 1\n")
@@ -103,15 +118,15 @@ def check_files(folder, dump):
     bad = [folder, f"{folder}/missing/file", f"{IMAGE}/below", "n" * 255, "n" * 256, "n" * 4096, "/" + "d/" * 2100]
     user = {"user": NOBODY} if os.geteuid() == 0 else {}
     calls = [["trace", IMAGE, PLAN], ["record", IMAGE, PLAN, os.path.join(folder, "no.dump")]]
-    calls += [["points", IMAGE, dump], ["replay", IMAGE, dump, "--from", "0"], live(folder)]
+    calls += [["points", IMAGE, dump], ["replay", IMAGE, dump, "--from", "0"], live(folder), watch(folder), load(folder)]
     for words in calls:
-        for place in (1, 2):
+        for place in (1, 3) if words[0] == "load" else (1, 2):
             for name in bad:
                 other = words[:place] + [name] + words[place + 1 :]
                 check(f"{words[0]}: {name[:20]} as file {place}", other, 3, b"", "tm: read fault", folder)
             check_unreadable(folder, words[:place] + [closed] + words[place + 1 :], user)
             check_fifo(words, place, fifo)
-    expect("record: no dump", ["no.dump"] if os.path.exists(os.path.join(folder, "no.dump")) else [])
+    expect("nothing is put", [name for name in ("no.dump", "live.dump", "no.tmi") if name in os.listdir(folder)])
 
 
 def check_unreadable(folder, words, user):
@@ -132,8 +147,9 @@ def check_fifo(words, place, fifo):
     writer.start()
     check(f"{words[0]}: a FIFO as file {place}", [*words[:place], fifo, *words[place + 1 :]], 0, text, "")
     writer.join(20)
-    if words[0] in ("record", "live") and os.path.exists(words[3]):
-        os.remove(words[3])
+    if words[0] in ("record", "live", "watch", "load"):
+        for name in glob.glob(f"{words[4 if words[0] == 'load' else 3]}*"):
+            os.remove(name)
 
 
 def check_names(folder, dump):
@@ -141,9 +157,13 @@ def check_names(folder, dump):
     before = sorted(os.listdir(folder))
     for name in (".", "..", f"{folder}/", f"{folder}/new/", f"{IMAGE}/below", "n" * 4096, "d/" * 2047 + "d"):
         check(f"record as {name[:20]}", ["record", IMAGE, PLAN, name], 9, b"", "tm: write fault", folder)
+        check(f"load as {name[:20]}", [*load(folder)[:4], name], 9, b"", "tm: write fault", folder)
         words = [*live(folder)[:3], name, "--slices=5", "--len=9", "--tape=tape"]
         check(f"live as {name[:20]}", words, 9, b"", "tm: write fault", folder)
-    equal("record, live: files", sorted(os.listdir(folder)), before)
+    for prefix in (f"{folder}/new/", f"{IMAGE}/below", "n" * 4096, "d/" * 2047 + "d"):
+        words = [*watch(folder)[:3], prefix, *watch(folder)[4:]]
+        check(f"watch as {prefix[:20]}", words, 9, b"", "tm: write fault", folder)
+    equal("record, live, watch, load: files", sorted(os.listdir(folder)), before)
     for name in (".", f"{folder}/new/", "n" * 4096):
         check(f"the tape as {name[:20]}", [*live(folder), "--tape", name], 9, b"", "tm: write fault", folder)
     equal("the dump before the tape", sorted(os.listdir(folder)), sorted([*before, "live.dump"]))

@@ -44,8 +44,11 @@ def memory_calls(folder):
         yield ["points", files[0], f"{name}.dump"]
         yield ["replay", files[0], f"{name}.dump", "--from", "0"]
         yield ["replay", files[0], f"{name}.dump", "--from", "0", "--workers", "4"]
+        yield ["load", files[0], "1", os.path.join(examples, "c", "apart", "control"), "new"]
         yield ["live", files[0], "none", "dump", "--slices=9", "--len=5", "--tape=tape"]
         yield ["live", files[0], "plant", "dump", "--slices=9", "--len=5"]
+        yield ["watch", files[0], "none", "seen", "--slices=9", "--len=5", "--observers=1", "--looks=2"]
+        yield ["watch", files[0], "plant", "seen", "--slices=9", "--len=5", "--observers=4", "--looks=9"]
     yield ["make", "0"]
 
 

@@ -65,7 +65,7 @@ def stored_by(plant):
 
 
 def wrong_audit(audit, plant, slices, masks):
-    """What is wrong with an audit, beside the plant and the masks of the tape."""
+    """What is wrong with an audit, beside the plant and the masks of the tape, where they are known."""
     first, *lines = audit.splitlines()
     wrong = [] if first == f"slices {slices}" else [first]
     told = {}
@@ -74,7 +74,7 @@ def wrong_audit(audit, plant, slices, masks):
         told[number] = raised
         if raised != joined + taken + pending:
             wrong.append(f"{line}: it doesn't add up")
-        if taken != sum(mask >> number & 1 for mask in masks):
+        if masks is not None and taken != sum(mask >> number & 1 for mask in masks):
             wrong.append(f"{line}: the tape has another number of takes")
     if list(told) != sorted(told) or told != raised_by(plant):
         wrong.append(f"raised {told}")

@@ -1,5 +1,7 @@
 """What becomes of a name under which a file is put: whatever happens, it has its old content or the whole new one.
-The file that is put is the dump of `tm record`; the dump and the tape of `tm live` where it is killed."""
+The file that is put is the dump of `tm record`; the dump and the tape of `tm live`, and the dumps of `tm watch`,
+where these are killed."""
+import hashlib
 import os
 import random
 import resource
@@ -56,7 +58,8 @@ class Run:
 
 
 def make_runs(folder):
-    """Two long runs and a short one, whose files stand in the folder."""
+    """Two long runs and a short one, whose files stand in the folder beside a plant without devices."""
+    write(os.path.join(folder, "none.tmplant"), b"tmplant 1\n")
     write(os.path.join(folder, "long.tmi"), chain_of_tasks())
     write(os.path.join(folder, "one.tmplan"), plan_of(3 * TASKS * KEPT))
     write(os.path.join(folder, "other.tmplan"), plan_of(3 * TASKS * KEPT + 1))
@@ -104,16 +107,12 @@ def check_kills(folder, runs):
     expect("killed in the midst", [] if in_the_midst else ["no kill came while a dump was being written"])
 
 
-def check_live_kills(folder):
-    """A `live` that is killed leaves the old dump or the whole new one, and the same of the tape, which is new only where
-    the dump is."""
-    write(os.path.join(folder, "none.tmplant"), b"tmplant 1\n")
-    names = [os.path.join(folder, name) for name in ("live.dump", "live.tape")]
-    words = ["live", "long.tmi", "none.tmplant", "live.dump", "--slices=20000", "--len=1", "--tape=live.tape"]
+def killed(words, names, folder, seed):
+    """Calls of these words that are killed, half of them anywhere, the others once something is being put. Each begins
+    with old content under the names; yields what they have then."""
     begin = time.monotonic()
     subprocess.run([program, *words], cwd=folder, check=True, stdout=subprocess.DEVNULL)
-    whole_run = time.monotonic() - begin
-    new, wrong, chance = [read(name) for name in names], [], random.Random(2)
+    whole_run, chance = time.monotonic() - begin, random.Random(seed)
     for place in range(40):
         for name in names:
             write(name, b"old")
@@ -125,11 +124,38 @@ def check_live_kills(folder):
             time.sleep(chance.uniform(0, whole_run))
         process.kill()
         process.communicate()
-        if [read(name) for name in names] not in ([b"old", b"old"], [new[0], b"old"], new):
-            wrong.append(f"kill {place}")
+        yield [read(name) for name in names]
         for name in beside(folder):
             os.remove(os.path.join(folder, name))
-    expect("live killed", wrong)
+
+
+def check_live_kills(folder):
+    """A `live` that is killed leaves the old dump or the whole new one, and the same of the tape, which is new only where
+    the dump is."""
+    names = [os.path.join(folder, name) for name in ("live.dump", "live.tape")]
+    words = ["live", "long.tmi", "none.tmplant", "live.dump", "--slices=20000", "--len=1", "--tape=live.tape"]
+    subprocess.run([program, *words], cwd=folder, check=True, stdout=subprocess.DEVNULL)
+    new = [read(name) for name in names]
+    wrong = [left for left in killed(words, names, folder, 2) if left not in ([b"old", b"old"], [new[0], b"old"], new)]
+    expect("live killed", [f"{list(map(len, left))} bytes" for left in wrong])
+
+
+def check_watch_kills(folder):
+    """A `watch` that is killed leaves whole dumps of the run under the first of its names, and the old content under the
+    others: the last dump is known, and of what an observer saw, its closing digest."""
+    names = [os.path.join(folder, f"seen.{name}") for name in (0, 1, 2, "end")]
+    words = ["watch", "long.tmi", "none.tmplant", "seen", "--slices=768", "--len=1", "--observers=3", "--looks=2"]
+    write(os.path.join(folder, "watched.tmplan"), b"tmplan 1\n" + b"slice 1 0\n" * 768)
+    whole, wrong, parts = Run(folder, "long.tmi", "watched.tmplan").dump, [], 0
+    for left in killed(words, names, folder, 3):
+        new = [content for content in left if content != b"old"]
+        is_ordered = left == new + [b"old"] * (len(left) - len(new))
+        is_whole = all(hashlib.sha256(content[:-32]).digest() == content[-32:] for content in new)
+        parts += 0 < len(new) < len(left)
+        if not is_ordered or not is_whole or left[-1] not in (b"old", whole):
+            wrong.append(f"{list(map(len, left))} bytes")
+    expect("watch killed", wrong)
+    expect("watch killed in the midst", [] if parts else ["no kill came between two puts"])
 
 
 def check_two_at_once(folder, runs):
@@ -269,6 +295,7 @@ def main():
         runs = make_runs(folder)
         check_kills(folder, runs)
         check_live_kills(folder)
+        check_watch_kills(folder)
         check_two_at_once(folder, runs)
         check_full_disk(folder, runs)
         check_small_file_system(folder, runs)
