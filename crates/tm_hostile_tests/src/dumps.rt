@@ -1,12 +1,8 @@
 //! Dumps that are changed. The last 32 bytes of a dump are the digest of those before.
 
-use crate::calls::DUMP;
 use sha2::{Digest, Sha256};
 use std::alloc::{AllocError, Global};
 use std::process::Abort;
-
-/// So many bytes of the run's dump are before its closing digest.
-const OPEN: usize = DUMP - 32;
 
 /// The first bytes.
 pub fn cut<'a>(rt: &impl Abort, bytes: &'a [u8], length: usize) -> &'a [u8] {
@@ -21,14 +17,15 @@ pub fn closed(alloc: Global, bytes: &[u8]) -> Result<Vec<u8>, AllocError> {
     Ok(dump)
 }
 
-/// What is before the closing digest of the run's dump, with other bytes at some places.
+/// What is before the closing digest of a dump, with other bytes at some places.
 pub fn changed(
     rt: &impl Abort,
     alloc: Global,
     dump: &[u8],
     changes: &[(usize, u8)],
 ) -> Result<Vec<u8>, AllocError> {
-    let mut bytes = Vec::from_slice(alloc, cut(rt, dump, OPEN))?;
+    let open = dump.len().checked_sub(32).expect(rt, "a digest");
+    let mut bytes = Vec::from_slice(alloc, cut(rt, dump, open))?;
     for (place, byte) in changes {
         assert!(rt; *place < bytes.len());
         bytes[*place] = *byte;
