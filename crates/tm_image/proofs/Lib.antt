@@ -1,7 +1,6 @@
 pub mod Masks
 pub mod Kept
 pub mod Fits
-pub mod Sets
 pub mod Wholes
 pub mod Counts
 pub mod Calm

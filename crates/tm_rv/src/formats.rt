@@ -140,15 +140,7 @@ pub(crate) fn split(op: Op, word: u32) -> Instr
         | Op::Srl
         | Op::Sra
         | Op::Or
-        | Op::And
-        | Op::Mul
-        | Op::Mulh
-        | Op::Mulhsu
-        | Op::Mulhu
-        | Op::Div
-        | Op::Divu
-        | Op::Rem
-        | Op::Remu => Instr {
+        | Op::And => Instr {
             rd: rd(word),
             rs1: rs1(word),
             rs2: rs2(word),

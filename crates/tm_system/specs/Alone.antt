@@ -1,7 +1,6 @@
 -- What a task does by itself: its instructions one after another, its calls answered by the data entries
 -- that it has.
 use Rattle.std.specs.Prelude.{ℕ, zero, suc, ◌+◌, ◌*◌, ◌^◌, Bool, true, false, List, slice_get, Option, Some, None, Result, Ok, Err, ok_or}
-use Rattle.tm_rv.specs.Code.{Text}
 use Rattle.tm_marker.specs.declared.marker.Marker.{Marker}
 use Rattle.tm_marker.specs.declared.marker.TheConstants.{EPOCH_LENGTH}
 use Rattle.tm_marker.specs.Order.{marker_lt}
@@ -17,7 +16,7 @@ use Rattle.tm_system.specs.declared.diverged.Why.TheVariants.{Passed, Faulted, N
 pub record Alone : Type 0 where
   pub task : ℕ
   pub entry : ℕ
-  pub text : Text
+  pub text : List ℕ
   pub log : List DataEntry
   pub first : ℕ
   pub total : ℕ
