@@ -5,6 +5,7 @@ use Rattle.std.specs.List.{list_any}
 use Rattle.std.proofs.lemmas.Bool.Decides.{nat_tests}
 use Rattle.std.proofs.lemmas.List.Folds.{list_any_at}
 use Rattle.std.proofs.lemmas.List.Quantifiers.{all_pairs_push}
+use Rattle.tm_rv.specs.declared.instr.Set.{Set}
 use Rattle.tm_image.specs.Load.{Load}
 use Rattle.tm_marker.specs.declared.body.TheConstants.{DATA_START}
 use Rattle.tm_elf.specs.declared.fault.Why.{Why}
@@ -58,6 +59,6 @@ apart_before bytes (suc number) none =
     (step_apart bytes number (is_load (header_of bytes number)) refl (none number (omega arith)) before)
 
 -- no byte is one of two loads
-pub loads_apart : (bytes : List ℕ) (least : ℕ) (load : Load) → elf_of bytes least ≡ Ok load → AllPairs AreApart (loads_of bytes)
-loads_apart bytes least load read =
-    apart_before bytes (header_count bytes) (no_segment bytes (right bytes least load read).segments)
+pub loads_apart : (bytes : List ℕ) (least : ℕ) (s : Set) (load : Load) → elf_of bytes least s ≡ Ok load → AllPairs AreApart (loads_of bytes)
+loads_apart bytes least s load read =
+    apart_before bytes (header_count bytes) (no_segment bytes (right bytes least s load read).segments)

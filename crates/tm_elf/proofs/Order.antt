@@ -1,5 +1,6 @@
 -- The order in which the faults of a file are told.
 use Rattle.std.proofs.Common.{◌≡◌, ℕ, List, [], ◌∷◌, ◌++◌, refl, ap, ◌∙◌, Option, Some, None, Result, Ok, Err}
+use Rattle.tm_rv.specs.declared.instr.Set.{Set}
 use Rattle.tm_elf.specs.declared.fault.ElfFault.{ElfFault}
 use Rattle.tm_elf.specs.declared.fault.ElfFault.TheVariants.{Short, Field, Segment, NoText, Entry, Memory}
 use Rattle.tm_elf.specs.Faults.{UnlessMemory}
@@ -40,22 +41,22 @@ none_at_all None xs is = (refl, is)
 none_at_all (Some y) xs is = cc
 
 -- the header is wrong
-pub told_header : (bytes : List ℕ) (least : ℕ) (fault : ElfFault) → unless (first (header_faults bytes)) (tt {0}) ≡ Err fault → elf_of bytes least ≡ Err fault
+pub told_header : (bytes : List ℕ) (least : ℕ) (s : Set) (fault : ElfFault) → unless (first (header_faults bytes)) (tt {0}) ≡ Err fault → elf_of bytes least s ≡ Err fault
 unfolding elf_of
-told_header bytes least fault is =
+told_header bytes least s fault is =
     let found = the_fault (first (header_faults bytes)) (tt {0}) fault is in
     let told = first_in (header_faults bytes) (wrong_segment bytes ∷ text_faults bytes (loads_of bytes)) fault found in
-    ap (λ (f : Option ElfFault). unless f (memory_of bytes (loads_of bytes) least)) told
+    ap (λ (f : Option ElfFault). unless f (memory_of bytes (loads_of bytes) least s)) told
 
 behind_header : (bytes : List ℕ) → unless (first (header_faults bytes)) (tt {0}) ≡ Ok (tt {0}) → first (faults_of bytes) ≡ first (wrong_segment bytes ∷ text_faults bytes (loads_of bytes))
 behind_header bytes right =
     first_behind (header_faults bytes) (wrong_segment bytes ∷ text_faults bytes (loads_of bytes)) ((no_fault (first (header_faults bytes)) (tt {0}) (tt {0}) right).0)
 
 -- the header is right, and a load is refused
-pub told_segment : (bytes : List ℕ) (least : ℕ) (fault : ElfFault) → unless (first (header_faults bytes)) (tt {0}) ≡ Ok (tt {0}) → wrong_segment bytes ≡ Some fault → elf_of bytes least ≡ Err fault
+pub told_segment : (bytes : List ℕ) (least : ℕ) (s : Set) (fault : ElfFault) → unless (first (header_faults bytes)) (tt {0}) ≡ Ok (tt {0}) → wrong_segment bytes ≡ Some fault → elf_of bytes least s ≡ Err fault
 unfolding elf_of
-told_segment bytes least fault right is =
-    ap (λ (f : Option ElfFault). unless f (memory_of bytes (loads_of bytes) least))
+told_segment bytes least s fault right is =
+    ap (λ (f : Option ElfFault). unless f (memory_of bytes (loads_of bytes) least s))
     (behind_header bytes right ∙ ap (λ (f : Option ElfFault). first (f ∷ text_faults bytes (loads_of bytes))) is)
 
 behind_segments : (bytes : List ℕ) → unless (first (header_faults bytes)) (tt {0}) ≡ Ok (tt {0}) → wrong_segment bytes ≡ None → first (faults_of bytes) ≡ first (text_faults bytes (loads_of bytes))
@@ -63,17 +64,17 @@ behind_segments bytes right none =
     behind_header bytes right ∙ ap (λ (f : Option ElfFault). first (f ∷ text_faults bytes (loads_of bytes))) none
 
 -- no load is refused, and the text is wrong
-pub told_text : (bytes : List ℕ) (least : ℕ) (fault : ElfFault) → unless (first (header_faults bytes)) (tt {0}) ≡ Ok (tt {0}) → wrong_segment bytes ≡ None → unless (first (text_faults bytes (loads_of bytes))) (tt {0}) ≡ Err fault → elf_of bytes least ≡ Err fault
+pub told_text : (bytes : List ℕ) (least : ℕ) (s : Set) (fault : ElfFault) → unless (first (header_faults bytes)) (tt {0}) ≡ Ok (tt {0}) → wrong_segment bytes ≡ None → unless (first (text_faults bytes (loads_of bytes))) (tt {0}) ≡ Err fault → elf_of bytes least s ≡ Err fault
 unfolding elf_of
-told_text bytes least fault right none is =
-    ap (λ (f : Option ElfFault). unless f (memory_of bytes (loads_of bytes) least))
+told_text bytes least s fault right none is =
+    ap (λ (f : Option ElfFault). unless f (memory_of bytes (loads_of bytes) least s))
     (behind_segments bytes right none ∙ the_fault (first (text_faults bytes (loads_of bytes))) (tt {0}) fault is)
 
 -- nothing is wrong
-pub told_memory : (bytes : List ℕ) (least : ℕ) → unless (first (header_faults bytes)) (tt {0}) ≡ Ok (tt {0}) → wrong_segment bytes ≡ None → unless (first (text_faults bytes (loads_of bytes))) (tt {0}) ≡ Ok (tt {0}) → elf_of bytes least ≡ Ok (memory_of bytes (loads_of bytes) least)
+pub told_memory : (bytes : List ℕ) (least : ℕ) (s : Set) → unless (first (header_faults bytes)) (tt {0}) ≡ Ok (tt {0}) → wrong_segment bytes ≡ None → unless (first (text_faults bytes (loads_of bytes))) (tt {0}) ≡ Ok (tt {0}) → elf_of bytes least s ≡ Ok (memory_of bytes (loads_of bytes) least s)
 unfolding elf_of
-told_memory bytes least right none fine =
-    ap (λ (f : Option ElfFault). unless f (memory_of bytes (loads_of bytes) least))
+told_memory bytes least s right none fine =
+    ap (λ (f : Option ElfFault). unless f (memory_of bytes (loads_of bytes) least s))
     (behind_segments bytes right none ∙ (no_fault (first (text_faults bytes (loads_of bytes))) (tt {0}) (tt {0}) fine).0)
 
 -- what holds at every fault holds at each but one

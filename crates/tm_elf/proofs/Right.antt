@@ -3,6 +3,7 @@ use Rattle.std.proofs.Common.{◌≡◌, ℕ, zero, suc, ◌+◌, ◌<◌, Bool,
 use Rattle.std.specs.Prelude.{option_map}
 use Rattle.std.specs.List.{range_with_len}
 use Rattle.std.proofs.lemmas.List.FromFn.{length-map-range_with_len, get_or-map-range_with_len}
+use Rattle.tm_rv.specs.declared.instr.Set.{Set}
 use Rattle.tm_image.specs.Load.{Load}
 use Rattle.tm_elf.specs.declared.fault.Why.{Why}
 use Rattle.tm_elf.specs.declared.fault.ElfFault.{ElfFault}
@@ -13,16 +14,16 @@ use Rattle.tm_elf.specs.Elf.{first, unless, fault_if, why_refused, segment_fault
 use Rattle.tm_elf.proofs.Order.{no_fault, none_behind, none_at_all}
 
 -- a file that is read has no fault behind its header, and what is read is its memory
-pub record IsRight (bytes : List ℕ) (least : ℕ) (load : Load) : Type 0 where
+pub record IsRight (bytes : List ℕ) (least : ℕ) (s : Set) (load : Load) : Type 0 where
   pub segments : wrong_segment bytes ≡ None
   pub text : no_text (loads_of bytes) ≡ None
   pub entry : wrong_entry bytes (loads_of bytes) ≡ None
-  pub memory : memory_of bytes (loads_of bytes) least ≡ load
+  pub memory : memory_of bytes (loads_of bytes) least s ≡ load
 
-pub right : (bytes : List ℕ) (least : ℕ) (load : Load) → elf_of bytes least ≡ Ok load → IsRight bytes least load
+pub right : (bytes : List ℕ) (least : ℕ) (s : Set) (load : Load) → elf_of bytes least s ≡ Ok load → IsRight bytes least s load
 unfolding elf_of
-right bytes least load read =
-    let fine = no_fault (first (faults_of bytes)) (memory_of bytes (loads_of bytes) least) load read in
+right bytes least s load read =
+    let fine = no_fault (first (faults_of bytes)) (memory_of bytes (loads_of bytes) least s) load read in
     let behind = none_behind (header_faults bytes) (wrong_segment bytes ∷ text_faults bytes (loads_of bytes)) fine.0 in
     let segments = none_at_all (wrong_segment bytes) (text_faults bytes (loads_of bytes)) behind.1 in
     let text = none_at_all (no_text (loads_of bytes)) (wrong_entry bytes (loads_of bytes) ∷ []) segments.1 in

@@ -7,6 +7,7 @@ use Rattle.std.proofs.lemmas.List.Elements.{All-head, All-tail, filter_passes}
 use Rattle.std.proofs.lemmas.List.FromFn.{length-map-range_with_len}
 use Rattle.tm_marker.specs.declared.body.TheConstants.{DATA_START}
 use Rattle.tm_marker.specs.declared.shape.TheConstants.{MOST_WORDS}
+use Rattle.tm_rv.specs.declared.instr.Set.{Set}
 use Rattle.tm_image.specs.Load.{Load}
 use Rattle.tm_image.specs.Image.{IsLoad}
 use Rattle.tm_elf.specs.declared.fault.ElfFault.TheVariants.{NoText, Entry}
@@ -79,15 +80,15 @@ pub length_words : (bytes : List ℕ) (loads : List ProgramHeader) (start count 
 length_words bytes loads start count = length-map-range_with_len (λ index. loaded_word bytes loads (start + 4 * index)) 0 count
 
 -- what is read is what a task can be loaded from
-pub is_sound : (bytes : List ℕ) (least : ℕ) (load : Load) → 0 < least → least ≤ MOST_WORDS → elf_of bytes least ≡ Ok load → IsLoad load
-is_sound bytes least load some few read =
-    let fine = right bytes least load read in
+pub is_sound : (bytes : List ℕ) (least : ℕ) (s : Set) (load : Load) → 0 < least → least ≤ MOST_WORDS → elf_of bytes least s ≡ Ok load → IsLoad load
+is_sound bytes least s load some few read =
+    let fine = right bytes least s load read in
     let loads = loads_of bytes in
     let each = filter_passes is_load (map (header_of bytes) (range_with_len 0 (header_count bytes))) in
     let text = length_words bytes loads TEXT_START (words_up_to TEXT_START loads) in
     let words = length_words bytes loads DATA_START (max least (words_up_to DATA_START loads)) in
     let entry = is_entry bytes loads fine.entry in
-    let sound : IsLoad (memory_of bytes loads least) = record {
+    let sound : IsLoad (memory_of bytes loads least s) = record {
       some_text = omega (arith, text, some_text loads each fine.text);
       short_text = omega (arith, text, few_words_up_to TEXT_START loads);
       some_words = omega (arith, words, some);

@@ -3,6 +3,7 @@ use Rattle.std.specs.Prelude.{ℕ, ◌≤◌, ◌+◌, ◌*◌, ◌%◌, Bool, n
 use Rattle.std.specs.List.{list_any, range_with_len}
 use Rattle.std.specs.Str.{bytes_eq}
 use Rattle.tm_marker.specs.declared.body.TheConstants.{DATA_START}
+use Rattle.tm_rv.specs.declared.instr.Set.{Set}
 use Rattle.tm_image.specs.Load.{Load}
 use Rattle.tm_elf.specs.declared.header.ProgramHeader.{ProgramHeader}
 use Rattle.tm_elf.specs.declared.header.TheConstants.{TEXT_START}
@@ -105,14 +106,17 @@ text_faults bytes loads = no_text loads ∷ wrong_entry bytes loads ∷ []
 abbrev pub faults_of : List ℕ → List (Option ElfFault)
 faults_of bytes = header_faults bytes ++ wrong_segment bytes ∷ text_faults bytes (loads_of bytes)
 
--- the text up to the last load in its window; the data likewise, with at least so many words
-abbrev pub memory_of : List ℕ → List ProgramHeader → ℕ → Load
-memory_of bytes loads least = record {
+-- the text up to the last load in its window, with this set of instructions; the data likewise, with at least
+-- so many words
+abbrev pub memory_of : List ℕ → List ProgramHeader → ℕ → Set → Load
+memory_of bytes loads least s = record {
   entry = entry_of bytes;
   text = loaded_words bytes loads TEXT_START (words_up_to TEXT_START loads);
+  set = s;
   words = loaded_words bytes loads DATA_START (max least (words_up_to DATA_START loads));
 }
 
--- what a task is loaded with from the file, with at least so many data words, or the first fault
-unfoldable pub elf_of : List ℕ → ℕ → Result Load ElfFault
-elf_of bytes least = unless (first (faults_of bytes)) (memory_of bytes (loads_of bytes) least)
+-- what a task is loaded with from the file, with at least so many data words and this set of instructions, or
+-- the first fault
+unfoldable pub elf_of : List ℕ → ℕ → Set → Result Load ElfFault
+elf_of bytes least s = unless (first (faults_of bytes)) (memory_of bytes (loads_of bytes) least s)

@@ -1,5 +1,6 @@
 -- A law of every executable that is read.
 use Rattle.std.specs.Prelude.{◌≡◌, ℕ, List, AllPairs, IsTrue, Ok}
+use Rattle.tm_rv.specs.declared.instr.Set.{Set}
 use Rattle.tm_image.specs.Load.{Load}
 use Rattle.tm_elf.specs.declared.header.ProgramHeader.{ProgramHeader}
 use Rattle.tm_elf.specs.Loads.{covers, loads_of}
@@ -11,5 +12,5 @@ AreApart load other = (address : ℕ) → IsTrue (covers address load) → IsTru
 
 -- no byte is one of two loads of an executable that is read
 abbrev pub LoadsAreApart : Type 0
-LoadsAreApart = (bytes : List ℕ) (least : ℕ) (load : Load) → elf_of bytes least ≡ Ok load →
+LoadsAreApart = (bytes : List ℕ) (least : ℕ) (s : Set) (load : Load) → elf_of bytes least s ≡ Ok load →
     AllPairs AreApart (loads_of bytes)

@@ -9,7 +9,7 @@ use crate::header::{ProgramHeader, TEXT_START, covering, greatest_reach};
 use byteorder::{ByteOrder, LittleEndian};
 use std::alloc::{AllocError, Global};
 use tm_marker::{DATA_START, MOST_WORDS};
-use tm_rv::Code;
+use tm_rv::{Code, Set};
 
 /// How many words of the window from an address on reach up to the greatest end of a load in it.
 pub(crate) fn words_up_to(start: u32, loads: &[ProgramHeader]) -> u32
@@ -60,18 +60,19 @@ pub(crate) fn data(
     Ok(words)
 }
 
-/// So many words of text.
+/// So many words of text, with this set of instructions.
 #[tactic(auto, using(crate::proofs::Steps::words_more))]
 pub(crate) fn text(
     alloc: Global,
     bytes: &[u8],
     loads: &[ProgramHeader],
     count: u32,
+    set: Set,
 ) -> Result<Code, AllocError>
     requires { count ≤ MOST_WORDS }
-    ensures { IfOk result (λ text. text ≡ loaded_words bytes.now loads.now TEXT_START count) }
+    ensures { IfOk result (λ text. text ≡ record { words = loaded_words bytes.now loads.now TEXT_START count; set = set }) }
 {
-    let mut text = Code::new(alloc);
+    let mut text = Code::new(alloc, set);
     for index in 0..count {
         text.extend(&[word_at(bytes, loads, TEXT_START + 4 * index)])?;
     }

@@ -1,7 +1,7 @@
 //! Executables that are read. Each is made here, header by header, or was made by other means, and so was
 //! what it must give.
 
-ghost use Rattle.std.specs.Prelude.{◌<◌, ◌≤◌, length};
+ghost use Rattle.std.specs.Prelude.{◌^◌, ◌<◌, ◌≤◌, length};
 
 mod refusals;
 
@@ -10,9 +10,13 @@ use std::process::Abort;
 use std::test::Fail;
 use tm_elf::read_elf;
 use tm_image::{Image, read_image};
+use tm_rv::Set;
 
 /// One task, which is replaced by what is read.
-const IMAGE: &[u8] = b"tmi 1\ntask 0 basic 1 auto 0 1\ntext 0 0000006f\n";
+const BASE_IMAGE: &[u8] = b"tmi 1\ntask 0 basic 1 auto 0 1\ntext 0 0000006f\n";
+
+/// The same with multiplication.
+const MUL_IMAGE: &[u8] = b"tmi 2\ntask 0 basic 1 auto 0 1\ntext 0 0000006f\n";
 
 /// A program header: its type, its offset in the file, its address, and its bytes in the file and in memory.
 type Header = [u32; 5];
@@ -77,15 +81,26 @@ fn file(alloc: Global, entry: u32, headers: &[Header], rest: &[u8]) -> Result<Ve
     Ok(bytes)
 }
 
-/// An image whose one task is what the bytes give.
-fn image_of(rt: &impl Abort, alloc: Global, bytes: &[u8], least: u32) -> Image
+/// The text of an image of this set.
+fn text_with(set: Set) -> &'static [u8]
+    ensures { length result.now < 2 ^ 8 }
+{
+    match set {
+        Set::Base => BASE_IMAGE,
+        Set::Mul => MUL_IMAGE,
+    }
+}
+
+/// An image of this set whose one task is what the bytes give.
+fn image_of(rt: &impl Abort, alloc: Global, set: Set, bytes: &[u8], least: u32) -> Image
     requires some { 0 < least }
     requires few { least ≤ 16384 }
     ensures { 0 < length result.loads }
 {
-    let mut image = read_image(alloc, IMAGE).expect(rt, "the image is read");
+    let mut image = read_image(alloc, text_with(set)).expect(rt, "the image is read");
     let _tasks = image.tasks();
-    match read_elf(alloc, bytes, least) {
+    assert_eq!(rt; image.set(), set);
+    match read_elf(alloc, bytes, least, set) {
         Ok(loaded) => image.replace(0, loaded),
         Err(fault) => panic!(rt; "{fault}"),
     }
@@ -104,7 +119,7 @@ fn assert_gives(
     requires few { least ≤ 16384 }
 {
     let (entry, text, words) = wanted;
-    let image = image_of(rt, alloc, bytes, least);
+    let image = image_of(rt, alloc, Set::Base, bytes, least);
     assert_eq!(rt; image.entry(0), entry);
     assert!(rt; image.text(0).words() == text);
     assert!(rt; image.words(0) == words);
@@ -125,6 +140,15 @@ fn executables_from_outside_are_read(rt: HostRuntime) {
         2,
         (0, &[0, 0x72], &[0, 0]),
     );
+}
+
+#[test]
+fn a_text_has_the_set_that_is_told(rt: HostRuntime) {
+    let alloc = rt.alloc();
+    for set in [Set::Base, Set::Mul] {
+        let image = image_of(&rt, alloc, set, &TERMINATES, 1);
+        assert_eq!(rt; image.text(0).set(), set);
+    }
 }
 
 #[test]
@@ -181,7 +205,7 @@ fn the_windows_are_filled(rt: HostRuntime) -> Result<(), Fail> {
     let alloc = rt.alloc();
     let headers = [[1, 116, 0xffff, 1, 1], [1, 117, 0x1000_ffff, 1, 1]];
     let bytes = file(alloc, 0xfffc, &headers, &[0xaa, 0xbb])?;
-    let image = image_of(&rt, alloc, bytes.as_slice(), 16_384);
+    let image = image_of(&rt, alloc, Set::Base, bytes.as_slice(), 16_384);
     let text = image.text(0).words();
     let words = image.words(0);
     assert_eq!(rt; text.len(), 16_384);
@@ -190,7 +214,7 @@ fn the_windows_are_filled(rt: HostRuntime) -> Result<(), Fail> {
     assert_eq!(rt; words[16_383], 0xbb00_0000);
     let whole = [[1, 0, 0, 0, 65_536], [1, 0, 0x1000_0000, 0, 65_536]];
     let bytes = file(alloc, 0, &whole, &[])?;
-    let image = image_of(&rt, alloc, bytes.as_slice(), 1);
+    let image = image_of(&rt, alloc, Set::Base, bytes.as_slice(), 1);
     assert_eq!(rt; image.text(0).words().len(), 16_384);
     assert_eq!(rt; image.words(0).len(), 16_384);
     Ok(())
@@ -208,7 +232,7 @@ fn sixty_four_loads_are_read(rt: HostRuntime) -> Result<(), Fail> {
         rest[place] = place as u8;
     }
     let bytes = file(alloc, 60, &headers, &rest)?;
-    let image = image_of(&rt, alloc, bytes.as_slice(), 1);
+    let image = image_of(&rt, alloc, Set::Base, bytes.as_slice(), 1);
     let text = image.text(0).words();
     assert_eq!(rt; text.len(), 16);
     assert_eq!(rt; text[0], 0x3c3d_3e3f);

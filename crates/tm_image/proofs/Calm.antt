@@ -1,5 +1,5 @@
 -- No image's and no plan's answer is want of memory.
-use Rattle.std.proofs.Common.{ℕ, ◌+◌, false, ◌||◌, List, [], ◌∷◌, ◌++◌, length, Option, Some, None, Ok, slice_get, set, eqb, ltb, unwrap_or}
+use Rattle.std.proofs.Common.{ℕ, ◌+◌, false, ◌||◌, List, [], ◌∷◌, ◌++◌, length, Option, Some, None, Result, Ok, Err, slice_get, set, eqb, ltb, unwrap_or}
 use Rattle.std.specs.Prelude.{codes, is_some}
 use Rattle.tm_marker.specs.declared.entries.Slice.{Slice}
 use Rattle.tm_image.specs.declared.said.Keyword.{Keyword}
@@ -7,14 +7,17 @@ use Rattle.tm_image.specs.declared.said.Keyword.TheVariants.{Task, Text, Data, R
 use Rattle.tm_image.specs.declared.said.LineLine.{LineLine}
 use Rattle.tm_image.specs.declared.said.RingLine.{RingLine}
 use Rattle.tm_kernel.specs.declared.spec.Action.TheVariants.{Nothing}
+use Rattle.tm_rv.specs.declared.instr.Set.{Set}
+use Rattle.tm_rv.specs.declared.instr.Set.TheVariants as set
+use Rattle.tm_lines.specs.declared.fault.Fault.{Fault}
 use Rattle.tm_lines.specs.Steps.{◌>>=◌, on_line}
-use Rattle.tm_lines.specs.Lines.{pieces, from_header, lines_on}
+use Rattle.tm_lines.specs.Lines.{pieces, header, from_header, lines_on}
 use Rattle.tm_lines.specs.Numbers.{number_in, word_in, all_in}
 use Rattle.tm_image.specs.Plan.{ports_in, slice_in, new_slice, plan_line, plan_of}
 use Rattle.tm_image.specs.Said.{keyword_in, kind_in, start_in, task_in, text_in, data_in, resource_in, activate_in, event_in, action_in, alarm_in, box_in, line_action_in, line_in, ring_name_in, ring_in}
 use Rattle.tm_image.specs.Load.{Load, written, more_text, with_text, new_data, with_data}
 use Rattle.tm_image.specs.Draft.{Draft, names_no_task, is_given, line_action_of, most_of, ring_of, with_ring, empty_draft, new_task, new_text, new_data_words, new_resource, new_alarm, new_box, new_line, new_ring, words_on, image_line, whole}
-use Rattle.tm_image.specs.Image.{image_digest, image_with, draft_of, image_of}
+use Rattle.tm_image.specs.Image.{image_digest, image_with, Below, by_version, below, draft_of, image_of}
 use Rattle.tm_lines.specs.Laws.{NeverMemory}
 use Rattle.tm_lines.proofs.Calm.{IsCalm, ok, form, range, missing, choice, then_on, tests, word_calm, all_calm, number_calm, from_number, gives, on_line_never, goes_on, header_never, lines_never}
 
@@ -166,16 +169,25 @@ whole_calm d = search (choice, missing, range, ok)
 pub plan_never : (bytes : List ℕ) → NeverMemory (plan_of bytes)
 unfolding plan_of
 plan_never bytes =
-    goes_on (from_header (codes "tmplan") 1 (pieces bytes)) (λ (body : ℕ × List (List ℕ)). lines_on plan_line body.0 [] body.1 >>= (λ (last : ℕ × List Slice). Ok last.1))
-    (header_never (codes "tmplan") 1 (pieces bytes))
+    goes_on (from_header (header (codes "tmplan") (codes "1")) 1 (pieces bytes)) (λ (body : ℕ × List (List ℕ)). lines_on plan_line body.0 [] body.1 >>= (λ (last : ℕ × List Slice). Ok last.1))
+    (header_never (header (codes "tmplan") (codes "1")) 1 (pieces bytes))
     (λ body. goes_on (lines_on plan_line body.0 [] body.1) (λ (last : ℕ × List Slice). Ok last.1) (lines_never plan_line body.0 [] body.1 plan_line_calm) (λ last. gives last.1))
+
+below_never : (lines : List (List ℕ)) → NeverMemory (below lines)
+below_never lines =
+    either (from_header (header (codes "tmi") (codes "1")) 1 lines) (from_header (header (codes "tmi") (codes "2")) 1 lines)
+    (header_never (header (codes "tmi") (codes "2")) 1 lines)
+  where
+    either : (first second : Result Below Fault) → NeverMemory second → NeverMemory (by_version first second)
+    either (Ok body) second calm = gives _
+    either (Err fault) second calm = goes_on second (λ body. Ok (set.Mul, body)) calm (λ body. gives _)
 
 draft_never : (bytes : List ℕ) → NeverMemory (draft_of bytes)
 unfolding draft_of
 draft_never bytes =
-    goes_on (from_header (codes "tmi") 1 (pieces bytes)) (λ (body : ℕ × List (List ℕ)). lines_on image_line body.0 empty_draft body.1 >>= (λ (last : ℕ × Draft). on_line last.0 (whole last.1)))
-    (header_never (codes "tmi") 1 (pieces bytes))
-    (λ body. goes_on (lines_on image_line body.0 empty_draft body.1) (λ (last : ℕ × Draft). on_line last.0 (whole last.1)) (lines_never image_line body.0 empty_draft body.1 image_line_calm) (λ last. on_line_never last.0 (whole last.1) (whole_calm last.1)))
+    goes_on (below (pieces bytes)) (λ (body : Set × Below). lines_on image_line body.1.0 (empty_draft body.0) body.1.1 >>= (λ (last : ℕ × Draft). on_line last.0 (whole last.1)))
+    (below_never (pieces bytes))
+    (λ body. goes_on (lines_on image_line body.1.0 (empty_draft body.0) body.1.1) (λ (last : ℕ × Draft). on_line last.0 (whole last.1)) (lines_never image_line body.1.0 (empty_draft body.0) body.1.1 image_line_calm) (λ last. on_line_never last.0 (whole last.1) (whole_calm last.1)))
 
 pub image_never : (bytes : List ℕ) → NeverMemory (image_of bytes)
 unfolding image_of

@@ -6,7 +6,7 @@ use Rattle.std.specs.List.{onto_first}
 use Rattle.tm_marker.specs.declared.entries.Slice.{Slice}
 use Rattle.tm_lines.specs.declared.fault.Reason.TheVariants.{Form}
 use Rattle.tm_lines.specs.Steps.{◌>>=◌, on_line}
-use Rattle.tm_lines.specs.Lines.{is_line_end, pieces, opening, from_header, said, go_on, step, lines_on}
+use Rattle.tm_lines.specs.Lines.{is_line_end, pieces, Header, header, opening, from_header, said, go_on, step, lines_on}
 use Rattle.tm_lines.proofs.Steps.{bound, on_line_gave, passed}
 use Rattle.tm_image.specs.Plan.{slice_in, new_slice, plan_line, plan_of}
 
@@ -20,14 +20,14 @@ length-pieces : (text : List ℕ) → length (pieces text) ≤ length text
 length-pieces [] = omega arith
 length-pieces (c ∷ cs) = piece_more (is_line_end c) c (pieces cs) (length cs) (length-pieces cs)
 
-below_more : (opened : Bool) (name : List ℕ) (number : ℕ) (rest : List (List ℕ)) (body : ℕ × List (List ℕ)) →
+below_more : (opened : Bool) (name : Header) (number : ℕ) (rest : List (List ℕ)) (body : ℕ × List (List ℕ)) →
     ((number : ℕ) → (body : ℕ × List (List ℕ)) → from_header name number rest ≡ Ok body → length body.1 ≤ length rest) →
     (if opened then Ok (number + 1, rest) else from_header name (number + 1) rest) ≡ Ok body → length body.1 ≤ length rest
 below_more true name number rest body more e =
     let same : (number + 1, rest) ≡ body = cc e in omega (arith, ap (λ (b : ℕ × List (List ℕ)). length b.1) same)
 below_more false name number rest body more e = more (number + 1) body e
 
-length-from_header : (name : List ℕ) (lines : List (List ℕ)) (number : ℕ) (body : ℕ × List (List ℕ)) →
+length-from_header : (name : Header) (lines : List (List ℕ)) (number : ℕ) (body : ℕ × List (List ℕ)) →
     from_header name number lines ≡ Ok body → length body.1 ≤ length lines
 length-from_header name [] number body e = cc e
 length-from_header name (line ∷ rest) number body e =
@@ -66,14 +66,14 @@ length-lines_on (line ∷ rest) number slices last e =
 pub few_slices : (text : List ℕ) (slices : List Slice) → plan_of text ≡ Ok slices → length slices ≤ length text
 unfolding plan_of
 few_slices text slices e =
-    let header = bound (from_header (codes "tmplan") 1 (pieces text))
+    let below = bound (from_header (header (codes "tmplan") (codes "1")) 1 (pieces text))
     (λ body. lines_on plan_line body.0 [] body.1 >>= (λ last. Ok last.1)) slices e in
-    let lines = bound (lines_on plan_line header.0.0 [] header.0.1) (λ last. Ok last.1) slices header.1.1 in
+    let lines = bound (lines_on plan_line below.0.0 [] below.0.1) (λ last. Ok last.1) slices below.1.1 in
     let same : lines.0.1 ≡ slices = cc lines.1.1 in
     omega (
       arith,
       length-pieces text,
-      length-from_header (codes "tmplan") (pieces text) 1 header.0 header.1.0,
-      length-lines_on header.0.1 header.0.0 [] lines.0 lines.1.0,
+      length-from_header (header (codes "tmplan") (codes "1")) (pieces text) 1 below.0 below.1.0,
+      length-lines_on below.0.1 below.0.0 [] lines.0 lines.1.0,
       ap length same,
     )

@@ -27,12 +27,13 @@ use Rattle.tm_image.specs.declared.said.LineAction.TheVariants.{Tick, OfTask}
 use Rattle.tm_image.specs.declared.said.LineLine.{LineLine}
 use Rattle.tm_image.specs.declared.said.RingLine.{RingLine}
 use Rattle.tm_lines.specs.Steps.{◌>>=◌, on_line}
-use Rattle.tm_lines.specs.Lines.{pieces, from_header, lines_on}
+use Rattle.tm_rv.specs.declared.instr.Set.{Set}
+use Rattle.tm_lines.specs.Lines.{pieces, lines_on}
 use Rattle.tm_lines.specs.Numbers.{digit_in, hex_digit_in, digits_on, narrow, decimal_in, hex_in, number_in, word_in, all_in}
 use Rattle.tm_image.specs.Said.{keyword_in, task_in, text_in, data_in, resource_in, activate_in, event_in, action_in, alarm_in, box_in, is_tick, line_action_in, line_in, ring_in}
 use Rattle.tm_image.specs.Load.{Load, has_no_text, is_outside, more_text, written, new_data, with_text, with_data}
 use Rattle.tm_image.specs.Draft.{Draft, empty_draft, is_taken, is_off_range, with_task, new_task, new_text, new_data_words, is_no_task, has_twice, mask_of, new_resource, task_of, action_of, new_alarm, new_box, names_no_task, line_action_of, is_given, new_line, most_of, ring_of, with_ring, new_ring, words_on, image_line, whole}
-use Rattle.tm_image.specs.Image.{draft_of}
+use Rattle.tm_image.specs.Image.{Below, below, draft_of}
 use Rattle.tm_lines.proofs.Steps.{bound, passed, on_line_gave}
 use Rattle.tm_lines.proofs.Keeping.{lines_keep}
 use Rattle.tm_image.proofs.Wholes.{whole_passed}
@@ -315,15 +316,15 @@ line_keeps d (first ∷ words) next e so =
     let keyword = bound (keyword_in first) (λ keyword. words_on d keyword words) next e in
     words_fit d keyword.0 words next keyword.1.1 so
 
-none_so_far : FitsSoFar empty_draft
-none_so_far = record { lines = All-replicate FitsAction 16 action.Nothing tt; alarms = All-nil FitsAction; loads = All-nil LoadFits }
+none_so_far : (s : Set) → FitsSoFar (empty_draft s)
+none_so_far s = record { lines = All-replicate FitsAction 16 action.Nothing tt; alarms = All-nil FitsAction; loads = All-nil LoadFits }
 
 -- what every image keeps
 pub draft_fits : (bytes : List ℕ) (d : Draft) → draft_of bytes ≡ Ok d → FitsSoFar d
 unfolding draft_of
 draft_fits bytes d e =
-    let body = bound (from_header (codes "tmi") 1 (pieces bytes)) (λ (body : ℕ × List (List ℕ)). lines_on image_line body.0 empty_draft body.1 >>= (λ (last : ℕ × Draft). on_line last.0 (whole last.1))) d e in
-    let last = bound (lines_on image_line body.0.0 empty_draft body.0.1) (λ (last : ℕ × Draft). on_line last.0 (whole last.1)) d body.1.1 in
-    let so : FitsSoFar last.0.1 = lines_keep FitsSoFar image_line line_keeps body.0.0 body.0.1 empty_draft last.0 last.1.0 none_so_far in
+    let body = bound (below (pieces bytes)) (λ (body : Set × Below). lines_on image_line body.1.0 (empty_draft body.0) body.1.1 >>= (λ (last : ℕ × Draft). on_line last.0 (whole last.1))) d e in
+    let last = bound (lines_on image_line body.0.1.0 (empty_draft body.0.0) body.0.1.1) (λ (last : ℕ × Draft). on_line last.0 (whole last.1)) d body.1.1 in
+    let so : FitsSoFar last.0.1 = lines_keep FitsSoFar image_line line_keeps body.0.1.0 body.0.1.1 (empty_draft body.0.0) last.0 last.1.0 (none_so_far body.0.0) in
     let is = whole_passed (length last.0.1.loads == 0 || list_any has_no_text last.0.1.loads) (list_any is_outside last.0.1.loads) last.0.1 d (on_line_gave last.0.0 (whole last.0.1) d last.1.1) in
     subst FitsSoFar is.2 so

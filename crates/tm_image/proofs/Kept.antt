@@ -32,6 +32,7 @@ use Rattle.tm_image.specs.declared.said.RingLine.{RingLine}
 use Rattle.tm_image.specs.declared.rings.RingName.{RingName}
 use Rattle.tm_image.specs.declared.rings.RingName.TheVariants as ring
 use Rattle.tm_image.specs.declared.rings.Rings.{Rings}
+use Rattle.tm_rv.specs.declared.instr.Set.{Set}
 use Rattle.tm_lines.specs.Steps.{◌>>=◌}
 use Rattle.tm_lines.specs.Numbers.{number_in, all_in}
 use Rattle.tm_image.specs.Said.{keyword_in, task_in, text_in, data_in, resource_in, alarm_in, box_in, line_in, ring_in}
@@ -442,8 +443,8 @@ line_keeps d (first ∷ words) next e so =
     let keyword = bound (keyword_in first) (λ keyword. words_on d keyword words) next e in
     words_keep d keyword.0 words next keyword.1.1 so
 
-pub none_so_far : IsSoFar empty_draft
-none_so_far = record {
+pub none_so_far : (s : Set) → IsSoFar (empty_draft s)
+none_so_far s = record {
   tasks = record { few = omega arith; priorities = All-nil (λ s. 0 < s.priority); small = All-nil (λ s. s.priority < 256); distinct = λ i j d h k. absurd (omega arith) };
   users = record { few = omega arith; masks = All-nil _ };
   alarms = record { few = omega arith; actions = All-nil _ };

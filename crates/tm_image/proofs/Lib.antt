@@ -1,6 +1,7 @@
 pub mod Masks
 pub mod Kept
 pub mod Fits
+pub mod Sets
 pub mod Wholes
 pub mod Counts
 pub mod Calm

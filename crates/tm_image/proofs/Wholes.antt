@@ -9,12 +9,14 @@ use Rattle.std.proofs.lemmas.List.Elements.{All-map, All-set, All-weaker}
 use Rattle.tm_marker.specs.Shape.{IsWordCount, IsShape}
 use Rattle.tm_lines.specs.declared.fault.Reason.TheVariants.{Range, Missing}
 use Rattle.tm_lines.specs.Steps.{◌>>=◌, on_line}
-use Rattle.tm_lines.specs.Lines.{pieces, from_header, lines_on}
+use Rattle.tm_rv.specs.declared.instr.Set.{Set}
+use Rattle.tm_lines.specs.Lines.{pieces, lines_on}
 use Rattle.tm_image.specs.Load.{Load, has_no_text, is_outside}
 use Rattle.tm_image.specs.Draft.{Draft, empty_draft, image_line, whole}
-use Rattle.tm_image.specs.Image.{ImageView, IsLoad, IsImage, replaced, shape_of, draft_of, image_with}
+use Rattle.tm_image.specs.Image.{ImageView, IsLoad, IsImage, replaced, shape_of, Below, below, draft_of, image_with}
 use Rattle.tm_lines.proofs.Steps.{bound, on_line_gave, both_not}
 use Rattle.tm_lines.proofs.Keeping.{lines_keep}
+use Rattle.tm_image.proofs.Sets.{HasSet, own_set, lines_have}
 use Rattle.tm_image.proofs.Kept.{IsLoadSoFar, IsSoFar, any_false, line_keeps, none_so_far}
 
 -- a whole draft passed both tests
@@ -38,9 +40,10 @@ load_is load so text entry = record {
 whole_is : (digest : List ℕ) (d t : Draft)
     → length digest ≡ 32
     → IsSoFar d
+    → HasSet d.set d
     → whole d ≡ Ok t
     → IsImage (image_with digest t)
-whole_is digest d t long so e =
+whole_is digest d t long so own e =
     let p = whole_passed (eqb (length d.loads) 0 || list_any has_no_text d.loads) (list_any is_outside d.loads) d t e in
     let missing = both_not (eqb (length d.loads) 0) (list_any has_no_text d.loads) p.0 in
     let some : 0 < length d.loads = omega (arith, eqb-false _ _ missing.0) in
@@ -66,6 +69,7 @@ whole_is digest d t long so e =
           load_is _ (so.loads.each k x h)
           (any_false has_no_text d.loads missing.1 k x h)
           (any_false is_outside d.loads p.1 k x h);
+      sets = own.loads;
       caps = so.caps;
     })
 
@@ -76,10 +80,10 @@ pub image_is : (bytes digest : List ℕ) (d : Draft)
     → IsImage (image_with digest d)
 unfolding draft_of
 image_is bytes digest d e long =
-    let body = bound (from_header (codes "tmi") 1 (pieces bytes)) (λ (body : ℕ × List (List ℕ)). lines_on image_line body.0 empty_draft body.1 >>= (λ (last : ℕ × Draft). on_line last.0 (whole last.1))) d e in
-    let last = bound (lines_on image_line body.0.0 empty_draft body.0.1) (λ (last : ℕ × Draft). on_line last.0 (whole last.1)) d body.1.1 in
-    let so : IsSoFar last.0.1 = lines_keep IsSoFar image_line line_keeps body.0.0 body.0.1 empty_draft last.0 last.1.0 none_so_far in
-    whole_is digest last.0.1 d long so (on_line_gave last.0.0 (whole last.0.1) d last.1.1)
+    let body = bound (below (pieces bytes)) (λ (body : Set × Below). lines_on image_line body.1.0 (empty_draft body.0) body.1.1 >>= (λ (last : ℕ × Draft). on_line last.0 (whole last.1))) d e in
+    let last = bound (lines_on image_line body.0.1.0 (empty_draft body.0.0) body.0.1.1) (λ (last : ℕ × Draft). on_line last.0 (whole last.1)) d body.1.1 in
+    let so : IsSoFar last.0.1 = lines_keep IsSoFar image_line line_keeps body.0.1.0 body.0.1.1 (empty_draft body.0.0) last.0 last.1.0 (none_so_far body.0.0) in
+    whole_is digest last.0.1 d long so (own_set (lines_have body.0.0 body.0.1.0 body.0.1.1 last.0 last.1.0)) (on_line_gave last.0.0 (whole last.0.1) d last.1.1)
 
 -- the shape of an image is one that a recorder can have
 pub shape_is : (image : ImageView) → IsImage image → IsShape (shape_of image)
@@ -96,13 +100,14 @@ shape_is image is =
     }
 
 -- an image of whose tasks one is replaced is an image
-pub replaced_is : (image : ImageView) (task : ℕ) (load : Load) → IsImage image → IsLoad load → IsImage (replaced image task load)
-replaced_is image task load is sound = record {
+pub replaced_is : (image : ImageView) (task : ℕ) (load : Load) → IsImage image → IsLoad load → load.set ≡ image.set → IsImage (replaced image task load)
+replaced_is image task load is sound same = record {
   digest = is.digest;
   spec = is.spec;
   lines = is.lines;
   loads = rw length-set is.loads;
   each = All-set IsLoad _ _ _ sound is.each;
+  sets = All-set (λ (l : Load). l.set ≡ image.set) _ _ _ same is.sets;
   caps = is.caps;
 }
 

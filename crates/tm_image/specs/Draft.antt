@@ -11,6 +11,7 @@ use Rattle.tm_marker.specs.declared.entries.TheConstants.{LINES}
 use Rattle.tm_marker.specs.declared.shape.Caps.{Caps}
 use Rattle.tm_marker.specs.declared.shape.TheConstants.{MOST_TASKS, MOST_WORDS, MOST_ITEMS, MOST_CHECKPOINTS}
 use Rattle.tm_marker.specs.declared.shape.TheConstants.Caps.{DEFAULT}
+use Rattle.tm_rv.specs.declared.instr.Set.{Set}
 use Rattle.tm_lines.specs.declared.fault.Reason.{Reason}
 use Rattle.tm_lines.specs.declared.fault.Reason.TheVariants.{Form, Range, Missing}
 use Rattle.tm_image.specs.declared.said.Keyword.{Keyword}
@@ -34,15 +35,18 @@ use Rattle.tm_lines.specs.Steps.{◌>>=◌, tested}
 use Rattle.tm_image.specs.Said.{keyword_in, task_in, text_in, data_in, resource_in, alarm_in, box_in, line_in, ring_in}
 use Rattle.tm_image.specs.Load.{Load, has_no_text, is_outside, with_text, with_data}
 
--- what the kernel is made of, what each task is loaded from, and the capacities that were given
+-- the set of instructions, what the kernel is made of, what each task is loaded from, and the capacities that
+-- were given
 pub record Draft : Type 0 where
+  pub set : Set
   pub spec : KernelSpec
   pub loads : List Load
   pub rings : Rings
 
 -- before the first line: nothing, and no line with an action
-abbrev pub empty_draft : Draft
-empty_draft = record {
+abbrev pub empty_draft : Set → Draft
+empty_draft s = record {
+  set = s;
   spec = record { tasks = []; users = []; alarms = []; boxes = []; lines = replicate LINES action.Nothing };
   loads = [];
   rings = record { control = None; logs = None; outputs = None; checks = None };
@@ -64,7 +68,7 @@ with_task d t = record d {
   spec = record d.spec {
     tasks = d.spec.tasks ++ record { extended = t.extended; priority = t.priority; auto = t.auto } ∷ [];
   };
-  loads = d.loads ++ record { entry = t.entry; text = []; words = replicate t.words 0 } ∷ [];
+  loads = d.loads ++ record { entry = t.entry; text = []; set = d.set; words = replicate t.words 0 } ∷ [];
 }
 
 -- tasks are numbered in their order, and no two have one priority

@@ -1,5 +1,6 @@
 -- Texts and tasks that the examples share.
 use Rattle.std.specs.Prelude.{ℕ, List, [], codes, replicate, Option, Some}
+use Rattle.tm_rv.specs.declared.instr.Set.TheVariants as set
 use Rattle.tm_image.specs.Load.{Load}
 
 -- an image's header, and a task of one word of text and of data
@@ -8,7 +9,7 @@ one_task = codes "tmi 1\ntask 0 basic 1 auto 0 1\ntext 0 0000006f\n"
 
 -- a task with so many words of text
 abbrev pub with_text : ℕ → Option Load
-with_text number = Some (record { entry = 0; text = replicate number 0; words = [] })
+with_text number = Some (record { entry = 0; text = replicate number 0; set = set.Base; words = [] })
 
 -- an image's header, and sixteen tasks without text
 abbrev pub sixteen_tasks : List ℕ

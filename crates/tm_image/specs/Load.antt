@@ -1,17 +1,19 @@
 -- What a task is loaded from, and how the lines `text` and `data` change it.
 use Rattle.std.specs.Prelude.{ℕ, ◌+◌, ◌*◌, Bool, false, not, List, ◌++◌, length, take, drop, slice_get, slice_set, ◌==◌, nat_lt, Option, Some, None, Result, Ok, Err}
 use Rattle.tm_marker.specs.declared.shape.TheConstants.{MOST_WORDS}
+use Rattle.tm_rv.specs.declared.instr.Set.{Set}
 use Rattle.tm_lines.specs.declared.fault.Reason.{Reason}
 use Rattle.tm_lines.specs.declared.fault.Reason.TheVariants.{Range}
 use Rattle.tm_image.specs.declared.said.TextLine.{TextLine}
 use Rattle.tm_image.specs.declared.said.DataLine.{DataLine}
 use Rattle.tm_lines.specs.Steps.{◌>>=◌, tested}
 
--- what a task is loaded from: the address of its first instruction, the words of its text, and its
--- data words at boot
+-- what a task is loaded from: the address of its first instruction, the words of its text with the set of
+-- the instructions that they may be, and its data words at boot
 pub record Load : Type 0 where
   pub entry : ℕ
   pub text : List ℕ
+  pub set : Set
   pub words : List ℕ
 
 -- the task has no text

@@ -7,7 +7,7 @@ use Rattle.tm_lines.specs.declared.fault.Reason.{Reason}
 use Rattle.tm_lines.specs.declared.fault.Reason.TheVariants.{Form}
 use Rattle.tm_lines.specs.declared.fault.Fault.{Fault}
 use Rattle.tm_lines.specs.Steps.{◌>>=◌, tested}
-use Rattle.tm_lines.specs.Lines.{pieces, from_header, lines_on}
+use Rattle.tm_lines.specs.Lines.{pieces, header, from_header, lines_on}
 use Rattle.tm_lines.specs.Numbers.{number_in}
 
 -- a slice runs no more instructions than it may, after an arrival of some of 16 lines with a word for each port
@@ -53,6 +53,6 @@ plan_line slices (keyword ∷ words) =
 -- the slices of a plan, or the first fault: the header `tmplan 1`, and one line for each slice
 unfoldable pub plan_of : List ℕ → Result (List Slice) Fault
 plan_of bytes = do
-  body ← from_header (codes "tmplan") 1 (pieces bytes)
+  body ← from_header (header (codes "tmplan") (codes "1")) 1 (pieces bytes)
   last ← lines_on plan_line body.0 [] body.1
   Ok last.1

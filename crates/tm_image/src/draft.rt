@@ -20,10 +20,12 @@ use tm_kernel::{
 };
 use tm_lines::{Format, Reason};
 use tm_marker::{Caps, Items, LINES, MOST_TASKS, MOST_WORDS};
+use tm_rv::Set;
 
 /// What the lines so far say.
 #[derive(Debug, Drop)]
 pub(crate) struct Reading {
+    set: Set,
     spec: KernelSpec,
     loads: Vec<Loaded>,
     rings: Rings,
@@ -36,7 +38,7 @@ impl Model for Reading {
 
     ghost Value = { Draft };
 
-    ghost view = { λ r. record { spec = r.spec; loads = r.loads.items; rings = r.rings } };
+    ghost view = { λ r. record { set = r.set; spec = r.spec; loads = r.loads.items; rings = r.rings } };
 
     ghost invariant = { λ r. length r.spec.tasks ≤ MOST_TASKS };
 }
@@ -130,10 +132,11 @@ fn copy_of_loads(alloc: Global, loads: &[Loaded]) -> Result<Vec<Loaded>, AllocEr
 
 impl Reading {
     /// No line has been read.
-    pub(crate) fn new(alloc: Global) -> Self
-        ensures { result ≡ empty_draft }
+    pub(crate) fn new(alloc: Global, set: Set) -> Self
+        ensures { result ≡ empty_draft set }
     {
         Reading {
+            set,
             spec: KernelSpec {
                 tasks: Items::new(alloc),
                 users: Items::new(alloc),
@@ -151,6 +154,7 @@ impl Reading {
         ensures { IfOk result (λ copy. copy ≡ self.now) }
     {
         Ok(Reading {
+            set: self.set,
             spec: copy_of_spec(alloc, &self.spec)?,
             loads: copy_of_loads(alloc, self.loads.as_slice())?,
             rings: self.rings,
@@ -163,6 +167,13 @@ impl Reading {
         ensures { self.new ≡ record self.old { loads = slice_set self.old.loads task load } }
     {
         self.loads[task] = load;
+    }
+
+    /// The set of instructions.
+    pub(crate) fn set(&self) -> Set
+        ensures { result ≡ self.now.set }
+    {
+        self.set
     }
 
     /// What the kernel is made of.
@@ -234,7 +245,7 @@ impl Reading {
         if line.number == MOST_TASKS {
             return Err(Reason::Limit);
         }
-        let load = Loaded::new(alloc, line.entry, line.words)?;
+        let load = Loaded::new(alloc, line.entry, self.set, line.words)?;
         self.loads.push(load)?;
         self.spec.tasks.push(TaskSpec {
             extended: line.extended,

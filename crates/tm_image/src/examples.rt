@@ -3,6 +3,7 @@
 ghost use Rattle.std.specs.Prelude.{◌≡◌, [], ◌∷◌, ◌++◌, Some, true, false, codes, replicate, is_ok, IsOkAnd};
 ghost use Rattle.tm_kernel.specs.declared.spec.Action.TheVariants.{Nothing, Tick, Activate, Event};
 ghost use Rattle.tm_lines.specs.declared.fault.Reason.{Reason};
+ghost use Rattle.tm_rv.specs.declared.instr.Set.{Set};
 ghost use Rattle.tm_image.specs.Load.{more_text};
 ghost use Rattle.tm_image.specs.Image.{image_digest, image_of};
 ghost use Rattle.tm_image.specs.Plan.{plan_of};
@@ -33,6 +34,7 @@ pub fn image_examples()
     ensures all_keywords { let text = codes "tmi 1\ntask 0 extended 9 auto 4 3\ntext 0 00000013 0000006F\ntext 0 ffffffff\ndata 0 1 00000007 00000008\ndata 0 2 00000009\ntask 1 basic 1 off 0 1\ntext 1 00000073\nresource 0 0 1\nalarm 0 event 0 3\nalarm 1 activate 1\nbox 0 64\nline 3 tick\nline 15 activate 1\nring data 65536\nring checks 64\n" in
         image_of text ≡ Ok (record {
           digest = image_digest text;
+          set = Set.Base;
           spec = record {
             tasks = record { extended = true; priority = 9; auto = true } ∷ record { extended = false; priority = 1; auto = false } ∷ [];
             users = 3 ∷ [];
@@ -41,13 +43,14 @@ pub fn image_examples()
             lines = replicate 3 Nothing ++ Tick ∷ replicate 11 Nothing ++ Activate 1 ∷ [];
           };
           loads =
-              record { entry = 4; text = 19 ∷ 111 ∷ 4294967295 ∷ []; words = 0 ∷ 7 ∷ 9 ∷ [] }
-              ∷ record { entry = 0; text = 115 ∷ []; words = 0 ∷ [] } ∷ [];
+              record { entry = 4; text = 19 ∷ 111 ∷ 4294967295 ∷ []; set = Set.Base; words = 0 ∷ 7 ∷ 9 ∷ [] }
+              ∷ record { entry = 0; text = 115 ∷ []; set = Set.Base; words = 0 ∷ [] } ∷ [];
           caps = record { control = 256; logs = 65536; outputs = 256; checks = 64 };
         }) }
     ensures no_task { image_of (codes "tmi 1\n") ≡ Err (record { line = 2; reason = Reason.Missing }) }
     ensures no_text { image_of (codes "tmi 1\ntask 0 basic 1 auto 0 1") ≡ Err (record { line = 3; reason = Reason.Missing }) }
-    ensures other_header { image_of (codes "tmi 2\n") ≡ Err (record { line = 1; reason = Reason.Form }) }
+    ensures version_2 { image_of (codes "tmi 2\n") ≡ Err (record { line = 2; reason = Reason.Missing }) }
+    ensures other_header { image_of (codes "tmi 3\n") ≡ Err (record { line = 1; reason = Reason.Form }) }
     ensures entry_outside { image_of (codes "tmi 1\ntask 0 basic 1 auto 4 1\ntext 0 00000013") ≡ Err (record { line = 4; reason = Reason.Range }) }
     ensures text_wanted_first { image_of (codes "tmi 1\ntask 0 basic 1 auto 4 1\ntext 0 00000013\ntask 1 basic 2 auto 0 1\n") ≡ Err (record { line = 5; reason = Reason.Missing }) }
     ensures priority_zero { image_of (codes "tmi 1\ntask 0 basic 0 auto 0 1\n") ≡ Err (record { line = 2; reason = Reason.Range }) }

@@ -1,10 +1,11 @@
 //! An image: what a kernel is made of, and what each of its tasks is loaded from.
 
-ghost use Rattle.std.specs.Prelude.{◌≡◌, ◌<◌, ◌≤◌, ◌-◌, ◌^◌, length, IfOk};
+ghost use Rattle.std.specs.Prelude.{◌≡◌, ◌<◌, ◌≤◌, ◌+◌, ◌-◌, ◌^◌, length, IfOk};
 ghost use Rattle.tm_marker.specs.Shape.{IsShape};
+ghost use Rattle.tm_lines.specs.Lines.{pieces};
 ghost use Rattle.tm_lines.specs.Steps.{Gives};
 ghost use Rattle.tm_image.specs.Draft.{Draft};
-ghost use Rattle.tm_image.specs.Image.{load_of, entry_of, text_of, words_of, shape_of, replaced, IsLoad, IsImage, image_digest, draft_of, image_of};
+ghost use Rattle.tm_image.specs.Image.{load_of, entry_of, text_of, words_of, shape_of, replaced, IsLoad, IsImage, image_digest, below, draft_of, image_of};
 
 use crate::draft::Reading;
 use crate::load::Loaded;
@@ -12,9 +13,9 @@ use sha2::{Digest, Sha256};
 use std::alloc::{AllocError, Global};
 use std::marker::Model;
 use tm_kernel::KernelSpec;
-use tm_lines::{Fault, below_header, take_lines};
+use tm_lines::{Fault, Reason, below_header, take_lines};
 use tm_marker::Shape;
-use tm_rv::Code;
+use tm_rv::{Code, Set};
 
 /// Why an image was not read.
 pub type ImageFault = Fault;
@@ -76,11 +77,19 @@ impl Image {
         })
     }
 
-    /// Loads a task from something else, with as many data words as that has. All else stays, the digest
-    /// too: it is that of the file that was read. It takes no memory.
+    /// The set of instructions that the texts may have.
+    pub fn set(&self) -> Set
+        ensures { result ≡ self.now.set }
+    {
+        self.parts.set()
+    }
+
+    /// Loads a task from something else, with a text of the same set and as many data words as that has. All
+    /// else stays, the digest too: it is that of the file that was read. It takes no memory.
     pub fn replace(&mut self, task: u8, from: Loaded)
         requires there { task < length self.old.loads }
         requires sound { IsLoad from }
+        requires set { from.set ≡ self.old.set }
         ensures { self.new ≡ replaced self.old task from }
     {
         let task = task as usize;
@@ -135,21 +144,38 @@ fn digest_of(bytes: &[u8]) -> [u8; 32]
     Sha256::digest(bytes)
 }
 
+/// The number of the line below the header, the text from there on, and the set of instructions that the
+/// header's version has.
+fn below(alloc: Global, bytes: &[u8]) -> Result<(Set, u32, &[u8]), ImageFault>
+    requires { length bytes.now < 2 ^ 32 - 1 }
+    ensures body { Gives (λ body. (body.0, (body.1, pieces body.2.now))) result (below (pieces bytes.now)) }
+    ensures numbers { IfOk result (λ body. body.1 + length body.2.now ≤ length bytes.now + 1) }
+{
+    match below_header(alloc, b"tmi", b"1", bytes) {
+        Ok((first, body)) => Ok((Set::Base, first, body)),
+        Err(fault) if fault.reason == Reason::Memory => Err(fault),
+        Err(_) => {
+            let (first, body) = below_header(alloc, b"tmi", b"2", bytes)?;
+            Ok((Set::Mul, first, body))
+        }
+    }
+}
+
 /// What the lines of an image make.
 #[tactic(auto, unfolding(crate::specs::Image::draft_of))]
 fn read_draft(alloc: Global, bytes: &[u8]) -> Result<Reading, ImageFault>
     requires { length bytes.now < 2 ^ 32 - 1 }
     ensures { Gives (λ draft. draft) result (draft_of bytes.now) }
 {
-    let (first, body) = below_header(alloc, b"tmi", bytes)?;
-    let mut draft = Reading::new(alloc);
+    let (set, first, body) = below(alloc, bytes)?;
+    let mut draft = Reading::new(alloc, set);
     let last = take_lines(alloc, &mut draft, first, body)?;
     draft.end().map_err(|reason| Fault::on_line(last, reason))?;
     Ok(draft)
 }
 
-/// Reads an image: below the header `tmi 1`, lines of these forms in any order, a task before what
-/// names it.
+/// Reads an image: below the header, `tmi 1`, or `tmi 2` for texts that may have RV32M, lines of these forms in
+/// any order, a task before what names it.
 ///
 /// - `task N KIND PRIO START ENTRY WORDS`: KIND is `basic` or `extended`, PRIO 1 to 255 and no other
 ///   task's, START `auto` or `off`, ENTRY a multiple of 4, WORDS 1 to 16,384 data words.

@@ -10,7 +10,7 @@ use std::alloc::{AllocError, Global};
 use std::marker::Model;
 use tm_lines::Reason;
 use tm_marker::{Items, MOST_WORDS};
-use tm_rv::Code;
+use tm_rv::{Code, Set};
 
 /// What a task is loaded from: its entry, in bytes, its text, and its data words at boot, each of at most
 /// [`MOST_WORDS`] words.
@@ -28,17 +28,17 @@ impl Model for Loaded {
 
     ghost Value = { Load };
 
-    ghost view = { λ l. record { entry = l.entry; text = l.text; words = l.words.items } };
+    ghost view = { λ l. record { entry = l.entry; text = l.text.words; set = l.text.set; words = l.words.items } };
 
-    ghost invariant = { λ l. (length l.text ≤ MOST_WORDS) × (length l.words.items < 2 ^ 32) };
+    ghost invariant = { λ l. (length l.text.words ≤ MOST_WORDS) × (length l.words.items < 2 ^ 32) };
 }
 
 impl Loaded {
     /// A task of this entry, text and data words. It takes no memory.
     pub fn of(entry: u32, text: Code, words: Vec<u32>) -> Self
-        requires short { length text ≤ MOST_WORDS }
+        requires short { length text.words ≤ MOST_WORDS }
         requires few { length words.items ≤ MOST_WORDS }
-        ensures { result ≡ record { entry = entry; text = text; words = words.items } }
+        ensures { result ≡ record { entry = entry; text = text.words; set = text.set; words = words.items } }
     {
         Loaded { entry, text, words }
     }
@@ -47,7 +47,7 @@ impl Loaded {
     pub(crate) fn copy(&self, alloc: Global) -> Result<Self, AllocError>
         ensures { IfOk result (λ copy. copy ≡ self.now) }
     {
-        let mut text = Code::new(alloc);
+        let mut text = Code::new(alloc, self.text.set());
         text.extend(self.text.words())?;
         Ok(Loaded {
             entry: self.entry,
@@ -57,13 +57,18 @@ impl Loaded {
     }
 
     /// A task without text, whose data words are 0.
-    pub(crate) fn new(alloc: Global, entry: u32, words: u32) -> Result<Self, AllocError>
-        ensures { IfOk result (λ load. load ≡ record { entry = entry; text = []; words = replicate words 0 }) }
+    pub(crate) fn new(
+        alloc: Global,
+        entry: u32,
+        set: Set,
+        words: u32,
+    ) -> Result<Self, AllocError>
+        ensures { IfOk result (λ load. load ≡ record { entry = entry; text = []; set = set; words = replicate words 0 }) }
     {
         let words = vec![in alloc; 0; words as usize]?;
         Ok(Loaded {
             entry,
-            text: Code::new(alloc),
+            text: Code::new(alloc, set),
             words,
         })
     }
@@ -75,7 +80,7 @@ impl Loaded {
     }
 
     pub(crate) fn text(&self) -> &Code
-        ensures { result.now ≡ self.now.text }
+        ensures { result.now ≡ record { words = self.now.text; set = self.now.set } }
     {
         &self.text
     }

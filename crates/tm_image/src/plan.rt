@@ -130,7 +130,7 @@ fn slices_of(alloc: Global, bytes: &[u8]) -> Result<Plan, PlanFault>
     requires { length bytes.now < 2 ^ 32 - 1 }
     ensures { Gives (λ plan. plan) result (plan_of bytes.now) }
 {
-    let (first, body) = below_header(alloc, b"tmplan", bytes)?;
+    let (first, body) = below_header(alloc, b"tmplan", b"1", bytes)?;
     let mut plan = Plan {
         slices: Items::new(alloc),
     };

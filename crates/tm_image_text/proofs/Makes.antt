@@ -105,7 +105,7 @@ pub task_made : (d : Draft) (n : ℕ) (task : TaskSpec) (entry words : ℕ) → 
     IsWord entry → entry % 4 ≡ 0 → 0 < words → words ≤ 16384 →
     Makes (task_line n task entry words) d (record d {
       spec = record d.spec { tasks = d.spec.tasks ++ task ∷ [] };
-      loads = d.loads ++ record { entry = entry; text = []; words = replicate words 0 } ∷ [];
+      loads = d.loads ++ record { entry = entry; text = []; set = d.set; words = replicate words 0 } ∷ [];
     })
 unfolding task_line
 task_made d n task entry words next few some small fresh narrow aligned one most =

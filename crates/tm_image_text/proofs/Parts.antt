@@ -11,6 +11,7 @@ use Rattle.tm_kernel.specs.declared.spec.KernelSpec.{KernelSpec}
 use Rattle.tm_kernel.specs.Spec.{IsAlarmAction, IsLineAction, IsKernelSpec}
 use Rattle.tm_marker.specs.declared.shape.Caps.{Caps}
 use Rattle.tm_marker.specs.Shape.{IsCaps}
+use Rattle.tm_rv.specs.declared.instr.Set.{Set}
 use Rattle.tm_image.specs.Load.{Load, written}
 use Rattle.tm_image.specs.Draft.{Draft, is_taken}
 use Rattle.tm_image.specs.Image.{IsLoad}
@@ -133,29 +134,31 @@ lines_made d lines tasks long are narrow =
 abbrev parts : Draft → List TaskSpec → List Load → Draft
 parts d tasks loads = record d { spec = record d.spec { tasks = tasks }; loads = loads }
 
--- what a task of an image keeps
-pub record IsTask (task : TaskSpec × Load) : Type 0 where
+-- what a task of an image with this set keeps
+pub record IsTask (s : Set) (task : TaskSpec × Load) : Type 0 where
   pub some : 0 < task.0.priority
   pub small : task.0.priority < 256
   pub load : IsLoad task.1
+  pub set : task.1.set ≡ s
   pub words : IsOfWords task.1
 
 one_task : (d : Draft) (tasks : List TaskSpec) (loads : List Load) (task : TaskSpec) (load : Load) (n : ℕ) →
-    n ≡ length tasks → length loads ≡ n → n < 16 → IsTask (task, load) → is_taken task.priority tasks ≡ false →
+    n ≡ length tasks → length loads ≡ n → n < 16 → IsTask d.set (task, load) → is_taken task.priority tasks ≡ false →
     Makes (task_text n (task, load)) (parts d tasks loads) (parts d (tasks ++ task ∷ []) (loads ++ load ∷ []))
 one_task d tasks loads task load n next same few is fresh =
     let most = length load.words in
-    let first : Load = record { entry = load.entry; text = []; words = replicate most 0 } in
-    let second : Load = record { entry = load.entry; text = load.text; words = replicate most 0 } in
-    let third : Load = record { entry = load.entry; text = load.text; words = written (replicate most 0) 0 (used load.words) } in
+    let first : Load = record { entry = load.entry; text = []; set = load.set; words = replicate most 0 } in
+    let second : Load = record { entry = load.entry; text = load.text; set = load.set; words = replicate most 0 } in
+    let third : Load = record { entry = load.entry; text = load.text; set = load.set; words = written (replicate most 0) 0 (used load.words) } in
     let more = λ (l : Load). parts d (tasks ++ task ∷ []) (loads ++ l ∷ []) in
     let at = λ (a b : Load). set_at loads a [] b n same in
     let here = λ (l : Load). ap (λ (k : ℕ). slice_get (loads ++ l ∷ []) k) (sym same) ∙ get_at loads l [] in
     let zeros : List ℕ = replicate most 0 in
     let long : length zeros ≡ most = length-replicate most 0 in
     let line : Makes (task_line n task load.entry most) (parts d tasks loads) (more first) =
-    task_made (parts d tasks loads) n task load.entry most next few is.some is.small fresh
-    (omega (arith, is.load.inside, is.load.short_text)) is.load.aligned is.load.some_words is.load.few_words in
+    subst (λ (s : Set). Makes (task_line n task load.entry most) (parts d tasks loads) (more (record { entry = load.entry; text = []; set = s; words = replicate most 0 }))) (sym is.set)
+    (task_made (parts d tasks loads) n task load.entry most next few is.some is.small fresh
+    (omega (arith, is.load.inside, is.load.short_text)) is.load.aligned is.load.some_words is.load.few_words) in
     let text : Makes (text_line n load.text) (more first) (more second) =
     subst (λ (ls : List Load). Makes (text_line n load.text) (more first) (parts d (tasks ++ task ∷ []) ls)) (at first second)
     (text_made (more first) n first load.text (here first) (omega arith) is.load.some_text (omega (arith, is.load.short_text)) is.words.text) in
@@ -163,7 +166,7 @@ one_task d tasks loads task load n next same few is fresh =
     subst (λ (ls : List Load). Makes (data_line n load.words) (more second) (parts d (tasks ++ task ∷ []) ls)) (at second third)
     (data_made (more second) n second load.words (here second) (omega arith) (omega (arith, long)) is.words.words (at second second)) in
     let back : Makes (data_line n load.words) (more second) (more load) =
-    subst (λ (ws : List ℕ). Makes (data_line n load.words) (more second) (more (record { entry = load.entry; text = load.text; words = ws }))) (used_written load.words) data' in
+    subst (λ (ws : List ℕ). Makes (data_line n load.words) (more second) (more (record { entry = load.entry; text = load.text; set = load.set; words = ws }))) (used_written load.words) data' in
     makes_both (task_line n task load.entry most ++ text_line n load.text) (data_line n load.words) (parts d tasks loads) (more second) (more load)
     (makes_both (task_line n task load.entry most) (text_line n load.text) (parts d tasks loads) (more first) (more second) line text)
     back
@@ -190,7 +193,7 @@ apart_before before x behind whole e apart k d h =
     (subst (λ (q : TaskSpec × Load). (get_or whole k x).0.priority ≢ q.0.priority) (item_at before x behind whole e)
     (apart k (length before) x h (within before x behind whole e)))
 
-pub tasks_made : (d : Draft) (whole : List (TaskSpec × Load)) → length whole ≤ 16 → All IsTask whole → AllPairs (λ p q. p.0.priority ≢ q.0.priority) whole →
+pub tasks_made : (d : Draft) (whole : List (TaskSpec × Load)) → length whole ≤ 16 → All (IsTask d.set) whole → AllPairs (λ p q. p.0.priority ≢ q.0.priority) whole →
     Makes (numbered task_text 0 whole) (parts d [] []) (parts d (map (λ p. p.0) whole) (map (λ p. p.1) whole))
 tasks_made d whole few each apart =
     let put = λ (us : List (TaskSpec × Load)). parts d (map (λ p. p.0) us) (map (λ p. p.1) us) in
@@ -198,7 +201,7 @@ tasks_made d whole few each apart =
     (let made : Makes (task_text (length before) x) (put before) (parts d (map (λ p. p.0) before ++ x.0 ∷ []) (map (λ p. p.1) before ++ x.1 ∷ [])) =
     one_task d (map (λ p. p.0) before) (map (λ p. p.1) before) x.0 x.1 (length before)
     (sym (length-map before (λ p. p.0))) (length-map before (λ p. p.1)) (omega (arith, within before x behind whole e))
-    (of_item IsTask before x behind whole e each)
+    (of_item (IsTask d.set) before x behind whole e each)
     (is_fresh before x.0.priority (apart_before before x behind whole e apart)) in
     subst (λ (ts : List TaskSpec). Makes (task_text (length before) x) (put before) (parts d ts (map (λ p. p.1) (before ++ x ∷ []))))
     (sym (map-append (λ p. p.0) before (x ∷ [])))

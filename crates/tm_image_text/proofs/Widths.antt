@@ -13,12 +13,13 @@ use Rattle.tm_kernel.specs.declared.spec.Action.TheVariants as action
 use Rattle.tm_lines.specs.declared.fault.Reason.{Reason}
 use Rattle.tm_lines.specs.declared.fault.Reason.TheVariants.{Number, Form}
 use Rattle.tm_lines.specs.Steps.{◌>>=◌, on_line}
-use Rattle.tm_lines.specs.Lines.{pieces, from_header, lines_on}
-use Rattle.tm_lines.specs.Numbers.{digit_in, hex_digit_in, digits_on, hex_in, number_in, word_in, all_in}
+use Rattle.tm_rv.specs.declared.instr.Set.{Set}
+use Rattle.tm_lines.specs.Lines.{pieces, lines_on}
+use Rattle.tm_lines.specs.Numbers.{digit_in, hex_digit_in, digits_on, number_in, word_in, all_in}
 use Rattle.tm_image.specs.Said.{keyword_in, task_in, text_in, data_in, resource_in, alarm_in, box_in, line_in, ring_in}
 use Rattle.tm_image.specs.Load.{Load, has_no_text, is_outside, more_text, written, new_data, with_text, with_data}
 use Rattle.tm_image.specs.Draft.{Draft, empty_draft, is_taken, is_off_range, with_task, new_task, new_text, new_data_words, is_no_task, has_twice, mask_of, new_resource, task_of, action_of, new_alarm, new_box, names_no_task, line_action_of, is_given, new_line, most_of, ring_of, with_ring, new_ring, words_on, image_line, whole}
-use Rattle.tm_image.specs.Image.{ImageView, replaced, image_digest, draft_of, image_with, image_of}
+use Rattle.tm_image.specs.Image.{ImageView, replaced, image_digest, Below, below, draft_of, image_with, image_of}
 use Rattle.tm_lines.proofs.Steps.{bound, passed, on_line_gave}
 use Rattle.tm_lines.proofs.Keeping.{lines_keep}
 use Rattle.tm_image.proofs.Fits as image_numbers
@@ -230,9 +231,9 @@ line_keeps d (first ∷ words) next e so =
 draft_texts : (bytes : List ℕ) (d : Draft) → draft_of bytes ≡ Ok d → AreTexts d
 unfolding draft_of
 draft_texts bytes d e =
-    let body = bound (from_header (codes "tmi") 1 (pieces bytes)) (λ (body : ℕ × List (List ℕ)). lines_on image_line body.0 empty_draft body.1 >>= (λ (last : ℕ × Draft). on_line last.0 (whole last.1))) d e in
-    let last = bound (lines_on image_line body.0.0 empty_draft body.0.1) (λ (last : ℕ × Draft). on_line last.0 (whole last.1)) d body.1.1 in
-    let so : AreTexts last.0.1 = lines_keep AreTexts image_line line_keeps body.0.0 body.0.1 empty_draft last.0 last.1.0 (All-nil IsText) in
+    let body = bound (below (pieces bytes)) (λ (body : Set × Below). lines_on image_line body.1.0 (empty_draft body.0) body.1.1 >>= (λ (last : ℕ × Draft). on_line last.0 (whole last.1))) d e in
+    let last = bound (lines_on image_line body.0.1.0 (empty_draft body.0.0) body.0.1.1) (λ (last : ℕ × Draft). on_line last.0 (whole last.1)) d body.1.1 in
+    let so : AreTexts last.0.1 = lines_keep AreTexts image_line line_keeps body.0.1.0 body.0.1.1 (empty_draft body.0.0) last.0 last.1.0 (All-nil IsText) in
     let is = whole_passed (length last.0.1.loads == 0 || list_any has_no_text last.0.1.loads) (list_any is_outside last.0.1.loads) last.0.1 d (on_line_gave last.0.0 (whole last.0.1) d last.1.1) in
     subst AreTexts is.2 so
 

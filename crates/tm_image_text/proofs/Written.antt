@@ -42,7 +42,7 @@ length-zip (x ∷ xs) (y ∷ ys) same = ap suc (length-zip xs ys (omega arith))
 -- what a task is loaded from
 load_at : (image : ImageView) (n : ℕ) (d : Load) → n < length image.loads → get_or image.loads n d ≡ load_of image n
 load_at image n d within =
-    let none : Load = record { entry = 0; text = []; words = [] } in
+    let none : Load = record { entry = 0; text = []; set = image.set; words = [] } in
     get_or_default image.loads n d none within ∙ sym (unwrap_or-slice_get image.loads n none)
 
 -- one more task is written
@@ -69,5 +69,5 @@ tasks_end image n text whole is past all =
 pub words_more : (image : ImageView) (n : ℕ) → n < length image.loads → All IsOfWords (take n image.loads) → IsOfWords (load_of image n) →
     All IsOfWords (take (n + 1) image.loads)
 words_more image n within so words =
-    let none : Load = record { entry = 0; text = []; words = [] } in
+    let none : Load = record { entry = 0; text = []; set = image.set; words = [] } in
     All-more IsOfWords image.loads n none within so (subst IsOfWords (sym (load_at image n none within)) words)

@@ -1,12 +1,13 @@
 -- The one text of an image, and when it is read as the image.
-use Rattle.std.specs.Prelude.{◌≡◌, ℕ, List, ◌++◌, length, zip, flat_map, codes, Ok}
+use Rattle.std.specs.Prelude.{◌≡◌, ℕ, List, [], ◌∷◌, ◌++◌, length, zip, flat_map, codes, Ok}
 use Rattle.std.specs.List.{enumerate_from}
 use Rattle.tm_kernel.specs.declared.spec.TaskSpec.{TaskSpec}
 use Rattle.tm_marker.specs.declared.shape.Caps.{Caps}
-use Rattle.tm_spelling.specs.Lines.{line}
+use Rattle.tm_rv.specs.declared.instr.Set.{Set}
+use Rattle.tm_rv.specs.declared.instr.Set.TheVariants.{Base, Mul}
 use Rattle.tm_image.specs.Load.{Load}
 use Rattle.tm_image.specs.Image.{ImageView, image_digest, image_of}
-use Rattle.tm_image_text.specs.Lines.{task_line, text_line, data_line, resource_line, alarm_line, box_line, action_line, ring_line}
+use Rattle.tm_image_text.specs.Lines.{line_of, task_line, text_line, data_line, resource_line, alarm_line, box_line, action_line, ring_line}
 
 -- the lines of items, which are numbered from `first` on
 abbrev pub numbered : {X : Type 0} → (ℕ → X → List ℕ) → ℕ → List X → List ℕ
@@ -23,10 +24,19 @@ rings_text caps =
     ring_line (codes "control") caps.control ++ ring_line (codes "data") caps.logs ++
     ring_line (codes "outputs") caps.outputs ++ ring_line (codes "checks") caps.checks
 
+-- the version of the header: 1 for RV32I alone, 2 where the texts may have RV32M too
+abbrev pub version_of : Set → List ℕ
+version_of Base = codes "1"
+version_of Mul = codes "2"
+
+-- tmi VERSION
+abbrev pub header_line : Set → List ℕ
+header_line s = line_of (codes "tmi") (version_of s ∷ [])
+
 -- the header; the tasks; the resources, alarms, boxes and lines, each rising; the capacities
 unfoldable pub image_text : ImageView → List ℕ
 image_text image =
-    line (codes "tmi 1") ++ numbered task_text 0 (zip image.spec.tasks image.loads) ++
+    header_line image.set ++ numbered task_text 0 (zip image.spec.tasks image.loads) ++
     numbered resource_line 0 image.spec.users ++ numbered alarm_line 0 image.spec.alarms ++
     numbered box_line 0 image.spec.boxes ++ numbered action_line 0 image.spec.lines ++ rings_text image.caps
 

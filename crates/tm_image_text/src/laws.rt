@@ -7,10 +7,10 @@ ghost use Rattle.tm_image_text.specs.ImageText.{IsReadBack};
 ghost use Rattle.tm_image_text.specs.Numbers.{IsOfWords, FitsText};
 
 /// The text of an image is read as the image, but for the digest, which is that of the text; also where one of
-/// its tasks is replaced.
+/// its tasks is replaced by one of the image's set.
 pub fn images_are_read_back()
     ensures every { (image : ImageView) → IsImage image → FitsText image → IsReadBack image }
-    ensures replaced { (image : ImageView) (task : ℕ) (load : Load) → IsImage image → FitsText image → IsLoad load → IsOfWords load
+    ensures replaced { (image : ImageView) (task : ℕ) (load : Load) → IsImage image → FitsText image → IsLoad load → load.set ≡ image.set → IsOfWords load
         → IsReadBack (replaced image task load) }
 {}
 

@@ -5,19 +5,20 @@ ghost use Rattle.tm_image.specs.Image.{load_of};
 ghost use Rattle.tm_image_text.specs.Prefix.{Keeps};
 ghost use Rattle.tm_image_text.specs.Numbers.{IsNarrow, IsOfWords, FitsText};
 ghost use Rattle.tm_image_text.specs.Lines.{resource_line, alarm_line, box_line, action_line};
-ghost use Rattle.tm_image_text.specs.ImageText.{numbered, task_text, rings_text, image_text, IsReadBack};
+ghost use Rattle.tm_image_text.specs.ImageText.{numbered, version_of, header_line, task_text, rings_text, image_text, IsReadBack};
 
 use crate::lines::{
     put_action_line, put_alarm_line, put_box_line, put_data_line, put_resource_line, put_ring_line,
     put_task_line, put_text_line,
 };
-use crate::words::put;
+use crate::words::{put, put_token};
 use std::alloc::AllocError;
 use tm_image::Image;
 use tm_kernel::{Action, TaskSpec};
 use tm_marker::Caps;
+use tm_rv::Set;
 
-/// Appends the one text of an image: the header `tmi 1`; for each task its line, one line with its whole text
+/// Appends the one text of an image: the header, `tmi 1`, or `tmi 2` where the texts may have RV32M; for each task its line, one line with its whole text
 /// and, where a data word isn't 0, one line with its data words up to the last such word; then the resources,
 /// the alarms, the boxes and the lines that have an action, each rising, and the four capacities. On want of
 /// memory `into` is as before. The text is read as the image, but for the digest, which is that of the text.
@@ -42,13 +43,32 @@ fn put_image(image: &Image, into: &mut Vec<u8>) -> Result<(), AllocError>
     ensures narrow { OnOk result (FitsText image.now) }
 {
     let spec = image.spec();
-    put(b"tmi 1\n", into)?;
+    put_header(image.set(), into)?;
     put_tasks(image, into)?;
     put_resources(spec.users.as_slice(), into)?;
     put_alarms(spec.alarms.as_slice(), into)?;
     put_boxes(spec.boxes.as_slice(), into)?;
     put_actions(&spec.lines, into)?;
     put_rings(image.shape().caps, into)
+}
+
+/// The version of the header.
+fn version(set: Set) -> &'static [u8]
+    ensures { result.now ≡ version_of set }
+{
+    match set {
+        Set::Base => b"1",
+        Set::Mul => b"2",
+    }
+}
+
+fn put_header(set: Set, into: &mut Vec<u8>) -> Result<(), AllocError>
+    ensures ok { OnOk result (into.new.items ≡ into.old.items ++ header_line set) }
+    ensures keeps { Keeps into.old.items into.new.items }
+{
+    put(b"tmi", into)?;
+    put_token(version(set), into)?;
+    put(b"\n", into)
 }
 
 fn put_tasks(image: &Image, into: &mut Vec<u8>) -> Result<(), AllocError>

@@ -8,13 +8,17 @@ use std::process::Abort;
 use std::test::Fail;
 use tm_image::{Fault, Image, Loaded, Reason, read_image};
 use tm_image_text::image_text;
-use tm_rv::Code;
+use tm_rv::{Code, Set};
 
 /// A task of two words of text, and its text.
 const ONE_TASK: (&str, &str) = (
     "tmi 1\ntask 0 basic 1 auto 0 1\ntext 0 00200893\ntext 0 00000073\n",
     "tmi 1\ntask 0 basic 1 auto 0 1\ntext 0 00200893 00000073\nring control 256\nring data 256\nring outputs 256\nring checks 4\n",
 );
+
+/// A task that multiplies, as its text.
+const ONE_PRODUCT: &str =
+    "tmi 2\ntask 0 basic 1 auto 0 1\ntext 0 02208133 00000073\nring control 256\nring data 256\nring outputs 256\nring checks 4\n";
 
 /// The words of a text in either case, data lines that overlap and end in zeros, users that fall, lines and rings
 /// in no order, notes, and CR before LF; and its text.
@@ -60,6 +64,16 @@ fn each_image_has_one_text(rt: HostRuntime) -> Result<(), Fail> {
 }
 
 #[test]
+fn a_text_keeps_its_set(rt: HostRuntime) -> Result<(), Fail> {
+    let alloc = rt.alloc();
+    let read = image(alloc, ONE_PRODUCT.as_bytes()).expect(&rt, "an image");
+    assert_eq!(rt; read.set(), Set::Mul);
+    let text = text_of(alloc, &read, "")?;
+    assert_eq!(rt; text.as_slice(), ONE_PRODUCT.as_bytes());
+    Ok(())
+}
+
+#[test]
 fn a_text_stands_behind_what_was_there(rt: HostRuntime) -> Result<(), Fail> {
     let alloc = rt.alloc();
     let read = image(alloc, ONE_TASK.0.as_bytes()).expect(&rt, "an image");
@@ -74,7 +88,7 @@ fn a_text_stands_behind_what_was_there(rt: HostRuntime) -> Result<(), Fail> {
 fn a_replaced_task_stands_in_the_text(rt: HostRuntime) -> Result<(), Fail> {
     let alloc = rt.alloc();
     let mut read = image(alloc, LOOSE.0.as_bytes()).expect(&rt, "an image");
-    let mut code = Code::new(alloc);
+    let mut code = Code::new(alloc, read.set());
     code.extend(&[0x13, 0x73])?;
     let words = vec![in alloc; 0xa, 0, 0xb, 0]?;
     assert!(rt; read.tasks() > 1);

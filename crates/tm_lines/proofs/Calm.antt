@@ -4,7 +4,7 @@ use Rattle.tm_lines.specs.declared.fault.Reason.{Reason}
 use Rattle.tm_lines.specs.declared.fault.Reason.TheVariants.{Form, Number, Range, Missing, Memory}
 use Rattle.tm_lines.specs.declared.fault.Fault.{Fault}
 use Rattle.tm_lines.specs.Steps.{◌>>=◌, on_line, tested}
-use Rattle.tm_lines.specs.Lines.{said, is_opened, opening, from_header, go_on, step, lines_on}
+use Rattle.tm_lines.specs.Lines.{said, Header, is_opened, opening, from_header, go_on, step, lines_on}
 use Rattle.tm_lines.specs.Numbers.{digit_in, hex_digit_in, digits_on, narrow, decimal_in, hex_in, number_in, word_in, all_in}
 use Rattle.tm_lines.specs.Laws.{NeverMemory}
 
@@ -95,11 +95,11 @@ from_number token next more = then_on (number_in token) next (number_calm token)
 pub said_calm : (line : List ℕ) → IsCalm (said line)
 said_calm line = choice _ _ _ (ok _) form
 
-pub opened_calm : (name : List ℕ) (found : List (List ℕ)) → IsCalm (is_opened name found)
+pub opened_calm : (name : Header) (found : List (List ℕ)) → IsCalm (is_opened name found)
 opened_calm name [] = ok false
 opened_calm name (first ∷ rest) = choice _ _ _ (ok true) form
 
-pub opening_calm : (name line : List ℕ) → IsCalm (opening name line)
+pub opening_calm : (name : Header) (line : List ℕ) → IsCalm (opening name line)
 opening_calm name line = then_on (said line) (is_opened name) (said_calm line) (opened_calm name)
 
 pub go_on_calm : {S : Type 0} (next : S → List (List ℕ) → Result S Reason) (s : S) (found : List (List ℕ))
@@ -141,7 +141,7 @@ pub goes_on : {A B : Type 0} (first : Result A Fault) (next : A → Result B Fau
 goes_on (Ok x) next f more = more x
 goes_on (Err fault) next f more = record { never = λ line e. f.never line (cc e) }
 
-pub header_never : (name : List ℕ) (n : ℕ) (lines : List (List ℕ)) → NeverMemory (from_header name n lines)
+pub header_never : (name : Header) (n : ℕ) (lines : List (List ℕ)) → NeverMemory (from_header name n lines)
 header_never name n [] = record { never = λ line e. cc (reason_is line n Missing (ℕ × List (List ℕ)) e) }
 header_never name n (line ∷ rest) =
     goes_on (on_line n (opening name line)) (λ (opened : Bool). if opened then Ok (n + 1, rest) else from_header name (n + 1) rest)

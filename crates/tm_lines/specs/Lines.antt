@@ -1,5 +1,5 @@
 -- A text as lines, a line as tokens, and a file read line by line.
-use Rattle.std.specs.Prelude.{ℕ, ◌+◌, ◌-◌, Bool, true, false, ◌&&◌, ◌||◌, not, List, [], ◌∷◌, length, take, filter, find, slice_index, ◌==◌, nat_le, codes, if◌then◌else◌, Option, Some, None, Result, Ok, Err}
+use Rattle.std.specs.Prelude.{ℕ, ◌+◌, ◌-◌, Bool, true, false, ◌&&◌, ◌||◌, not, List, [], ◌∷◌, length, take, filter, find, slice_index, ◌==◌, nat_le, if◌then◌else◌, Option, Some, None, Result, Ok, Err}
 use Rattle.std.specs.List.{slice_split, onto_first, list_all}
 use Rattle.std.specs.Str.{bytes_eq}
 use Rattle.tm_lines.specs.declared.fault.Reason.{Reason}
@@ -58,29 +58,38 @@ abbrev pub said : List ℕ → Result (List (List ℕ)) Reason
 said line =
     if list_all is_plain (without_return line) then Ok (tokens_read (without_return line)) else Err Form
 
--- the tokens are those of the header: the name of the kind of file, and `1`
-abbrev pub is_header : List ℕ → List (List ℕ) → Bool
-is_header name (first ∷ second ∷ []) = bytes_eq first name && bytes_eq second (codes "1")
-is_header name _ = false
+-- a header: the name of the kind of file, and its version
+pub record Header : Type 0 where
+  pub name : List ℕ
+  pub version : List ℕ
+
+-- the header of this name and version
+abbrev pub header : List ℕ → List ℕ → Header
+header name version = record { name = name; version = version }
+
+-- the tokens are those of the header
+abbrev pub is_header : Header → List (List ℕ) → Bool
+is_header h (first ∷ second ∷ []) = bytes_eq first h.name && bytes_eq second h.version
+is_header h _ = false
 
 -- whether these tokens are the header; those of a skipped line are not, and all others are Form
-abbrev pub is_opened : List ℕ → List (List ℕ) → Result Bool Reason
-is_opened name [] = Ok false
-is_opened name (first ∷ rest) = if is_header name (first ∷ rest) then Ok true else Err Form
+abbrev pub is_opened : Header → List (List ℕ) → Result Bool Reason
+is_opened h [] = Ok false
+is_opened h (first ∷ rest) = if is_header h (first ∷ rest) then Ok true else Err Form
 
 -- whether the line is the header
-abbrev pub opening : List ℕ → List ℕ → Result Bool Reason
-opening name line = do
+abbrev pub opening : Header → List ℕ → Result Bool Reason
+opening h line = do
   found ← said line
-  is_opened name found
+  is_opened h found
 
 -- the lines below the header, and the number of the first of them, where the lines are numbered from
 -- `number` on: the first line that is not skipped is the header
-abbrev pub from_header : List ℕ → ℕ → List (List ℕ) → Result (ℕ × List (List ℕ)) Fault
-from_header name number [] = Err (record { line = number; reason = Missing })
-from_header name number (line ∷ rest) = do
-  opened ← on_line number (opening name line)
-  if opened then Ok (number + 1, rest) else from_header name (number + 1) rest
+abbrev pub from_header : Header → ℕ → List (List ℕ) → Result (ℕ × List (List ℕ)) Fault
+from_header h number [] = Err (record { line = number; reason = Missing })
+from_header h number (line ∷ rest) = do
+  opened ← on_line number (opening h line)
+  if opened then Ok (number + 1, rest) else from_header h (number + 1) rest
 
 -- the state after a line of these tokens, which `next` tells; a skipped line changes nothing
 abbrev pub go_on : {S : Type 0} → (S → List (List ℕ) → Result S Reason) → S → List (List ℕ) → Result S Reason

@@ -1,6 +1,6 @@
 //! Text files read line by line, into a value or the first line that is refused.
 //!
-//! A file begins with a header, its kind and `1` ([`below_header`]). [`take_lines`] then hands the tokens of
+//! A file begins with a header, its kind and its version ([`below_header`]). [`take_lines`] then hands the tokens of
 //! each line to a [`Format`], which adds to its value what they say, or gives a [`Reason`]; the first line
 //! that is refused is the [`Fault`] of the file. A line ends with LF, which the last line may lack, and one
 //! CR before its end is dropped. Its tokens are parted by spaces and tabs. A line without tokens, or whose

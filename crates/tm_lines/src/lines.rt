@@ -4,7 +4,7 @@ ghost use Rattle.std.specs.Prelude.{◌≡◌, ◌<◌, ◌≤◌, ◌+◌, ◌-
 ghost use Rattle.std.specs.List.{list_all};
 ghost use Rattle.std.specs.Str.{bytes_eq};
 ghost use Rattle.tm_lines.specs.Steps.{Answers, Gives};
-ghost use Rattle.tm_lines.specs.Lines.{is_line_end, pieces, without_return, is_plain, is_gap, is_ink, tokens, is_skipped, tokens_read, said, is_header, is_opened, opening, from_header, step, lines_on};
+ghost use Rattle.tm_lines.specs.Lines.{is_line_end, pieces, without_return, is_plain, is_gap, is_ink, tokens, is_skipped, tokens_read, said, header, is_header, is_opened, opening, from_header, step, lines_on};
 
 use crate::{Fault, Reason};
 use std::alloc::{AllocError, Global};
@@ -121,45 +121,51 @@ fn tokens_said(alloc: Global, line: &[u8]) -> Result<Vec<&[u8]>, Reason>
     Ok(tokens_of(alloc, line)?)
 }
 
-/// Whether the tokens are those of the header.
-fn is_header(name: &[u8], tokens: &[&[u8]]) -> bool
-    ensures { result ≡ is_header name.now (map (λ token. token.now) tokens.now) }
+/// Whether the tokens are those of the header of this name and version.
+fn is_header(name: &[u8], version: &[u8], tokens: &[&[u8]]) -> bool
+    ensures { result ≡ is_header (header name.now version.now) (map (λ token. token.now) tokens.now) }
 {
     match tokens {
-        [first, second] => spells(first, name) && spells(second, b"1"),
+        [first, second] => spells(first, name) && spells(second, version),
         _ => false,
     }
 }
 
 /// Whether a line is the header; it is skipped where it is not.
-fn is_opening(alloc: Global, name: &[u8], line: &[u8]) -> Result<bool, Reason>
-    ensures { Answers (λ opened. opened) result (opening name.now line.now) }
+fn is_opening(
+    alloc: Global,
+    name: &[u8],
+    version: &[u8],
+    line: &[u8],
+) -> Result<bool, Reason>
+    ensures { Answers (λ opened. opened) result (opening (header name.now version.now) line.now) }
 {
     let tokens = tokens_said(alloc, line)?;
     if tokens.is_empty() {
         return Ok(false);
     }
-    if is_header(name, &tokens) {
+    if is_header(name, version, &tokens) {
         Ok(true)
     } else {
         Err(Reason::Form)
     }
 }
 
-/// The number of the line below the header, and the text from there on.
+/// The number of the line below the header of this name and version, and the text from there on.
 pub fn below_header<'a>(
     alloc: Global,
     name: &[u8],
+    version: &[u8],
     text: &'a [u8],
 ) -> Result<(u32, &'a [u8]), Fault>
     requires { length text.now < 2 ^ 32 - 1 }
-    ensures body { Gives (λ body. (body.0, pieces body.1.now)) result (from_header name.now 1 (pieces text.now)) }
+    ensures body { Gives (λ body. (body.0, pieces body.1.now)) result (from_header (header name.now version.now) 1 (pieces text.now)) }
     ensures numbers { IfOk result (λ body. body.0 + length body.1.now ≤ length text.now + 1) }
 {
     let mut number = 1;
     let mut left = text;
     while let Some((line, rest)) = first_piece(left) {
-        match is_opening(alloc, name, line) {
+        match is_opening(alloc, name, version, line) {
             Ok(true) => return Ok((number + 1, rest)),
             Ok(false) => {}
             Err(reason) => return Err(Fault::on_line(number, reason)),

@@ -2,7 +2,7 @@
 use Rattle.std.proofs.Common.{ℕ, ◌+◌, false, ◌||◌, List, [], ◌∷◌, Ok, ltb, eqb}
 use Rattle.std.specs.Prelude.{codes}
 use Rattle.tm_lines.specs.Steps.{◌>>=◌}
-use Rattle.tm_lines.specs.Lines.{pieces, from_header, lines_on}
+use Rattle.tm_lines.specs.Lines.{pieces, header, from_header, lines_on}
 use Rattle.tm_lines.specs.Laws.{NeverMemory}
 use Rattle.tm_lines.proofs.Calm.{IsCalm, ok, form, choice, then_on, tests, number_calm, from_number, gives, goes_on, header_never, lines_never}
 use Rattle.tm_plant.specs.declared.plant.Act.{Act}
@@ -71,6 +71,6 @@ line_calm devices (first ∷ words) = then_on (keyword_in first) _ (keyword_calm
 pub plant_never : (bytes : List ℕ) → NeverMemory (plant_of bytes)
 unfolding plant_of
 plant_never bytes =
-    goes_on (from_header (codes "tmplant") 1 (pieces bytes)) (λ (body : ℕ × List (List ℕ)). lines_on plant_line body.0 [] body.1 >>= (λ (last : ℕ × List (List Act)). Ok last.1))
-    (header_never (codes "tmplant") 1 (pieces bytes))
+    goes_on (from_header (header (codes "tmplant") (codes "1")) 1 (pieces bytes)) (λ (body : ℕ × List (List ℕ)). lines_on plant_line body.0 [] body.1 >>= (λ (last : ℕ × List (List Act)). Ok last.1))
+    (header_never (header (codes "tmplant") (codes "1")) 1 (pieces bytes))
     (λ body. goes_on (lines_on plant_line body.0 [] body.1) (λ (last : ℕ × List (List Act)). Ok last.1) (lines_never plant_line body.0 [] body.1 line_calm) (λ last. gives last.1))

@@ -6,7 +6,7 @@ use Rattle.tm_lines.specs.declared.fault.Reason.{Reason}
 use Rattle.tm_lines.specs.declared.fault.Reason.TheVariants.{Form}
 use Rattle.tm_lines.specs.declared.fault.Fault.{Fault}
 use Rattle.tm_lines.specs.Steps.{◌>>=◌, tested}
-use Rattle.tm_lines.specs.Lines.{pieces, from_header, lines_on}
+use Rattle.tm_lines.specs.Lines.{pieces, header, from_header, lines_on}
 use Rattle.tm_plant.specs.declared.plant.Act.{Act}
 use Rattle.tm_plant.specs.declared.plant.Act.TheVariants as act
 use Rattle.tm_plant.specs.declared.plant.TheConstants.{MOST_DEVICES, MOST_ACTS, MOST_RAISES, MOST_TURNS}
@@ -110,6 +110,6 @@ plant_line devices (first ∷ words) = do
 -- the devices of a plant, or the first fault: the header `tmplant 1`, and one line for each device and act
 unfoldable pub plant_of : List ℕ → Result (List (List Act)) Fault
 plant_of bytes = do
-  body ← from_header (codes "tmplant") 1 (pieces bytes)
+  body ← from_header (header (codes "tmplant") (codes "1")) 1 (pieces bytes)
   last ← lines_on plant_line body.0 [] body.1
   Ok last.1

@@ -260,7 +260,7 @@ pub fn read_plant(alloc: Global, bytes: &[u8]) -> Result<Plant, PlantFault>
     ensures read { Gives (λ plant. plant) result (plant_of bytes.now) }
     ensures sound { IfOk result IsPlant }
 {
-    let (first, body) = below_header(alloc, b"tmplant", bytes)?;
+    let (first, body) = below_header(alloc, b"tmplant", b"1", bytes)?;
     let mut plant = Plant::new(alloc);
     take_lines(alloc, &mut plant, first, body)?;
     Ok(plant)

@@ -12,6 +12,7 @@ use Rattle.tm_image.specs.Image.{ImageView, Load, image_of, shape_of}
 use Rattle.tm_image.specs.Plan.{plan_of}
 use Rattle.tm_elf.specs.declared.fault.ElfFault.{ElfFault}
 use Rattle.tm_elf.specs.declared.fault.ElfFault.TheVariants as elf
+use Rattle.tm_rv.specs.declared.instr.Set.{Set}
 use Rattle.tm_elf.specs.Elf.{elf_of}
 use Rattle.tm_plant.specs.declared.plant.Act.{Act}
 use Rattle.tm_plant.specs.Plant.{plant_of}
@@ -41,10 +42,10 @@ plant_said bytes = said Plan (plant_of bytes)
 abbrev pub window_said : ImageView → List ℕ → Result WindowView Status
 window_said image bytes = said Dump (window_in (shape_of image) bytes)
 
--- what a task is loaded from by the executable that bytes are, with at least so many data words, or the
--- refusal of the executable
-abbrev pub loaded_said : ℕ → List ℕ → Result Load Status
-loaded_said least bytes = said Elf (elf_of bytes least)
+-- what a task is loaded from by the executable that bytes are, with at least so many data words and this set
+-- of instructions, or the refusal of the executable
+abbrev pub loaded_said : ℕ × Set → List ℕ → Result Load Status
+loaded_said keeps bytes = said Elf (elf_of bytes keeps.0 keeps.1)
 
 -- the image in the first file
 abbrev pub image_in : Option (List ℕ) → Option (Result ImageView Status)
@@ -63,8 +64,8 @@ abbrev pub window_file_in : ImageView → Option (List ℕ) → Option (Result W
 window_file_in image file = file_in DUMP_LIMIT 2 (window_said image) file
 
 -- what a task is loaded from by the executable in the second file
-abbrev pub loaded_in : ℕ → Option (List ℕ) → Option (Result Load Status)
-loaded_in least file = file_in ELF_LIMIT 2 (loaded_said least) file
+abbrev pub loaded_in : ℕ × Set → Option (List ℕ) → Option (Result Load Status)
+loaded_in keeps file = file_in ELF_LIMIT 2 (loaded_said keeps) file
 
 -- the status for an image's text that was refused, or for which there was no memory
 abbrev pub image_status : Fault → Reason → Status

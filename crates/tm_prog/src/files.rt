@@ -16,6 +16,7 @@ use tm_image::{Image, ImageFault, Loaded, Plan, PlanFault, Reason, read_image, r
 use tm_io::{GetFault, Shelf};
 use tm_log::Window;
 use tm_plant::{Plant, read_plant};
+use tm_rv::Set;
 use tm_words::Name;
 
 /// A kind of file: how long one may be, and what its bytes say, beside what was read before it.
@@ -154,33 +155,39 @@ impl FileKind<Image> for Window {
     }
 }
 
-/// How many data words a task has at least, 1 to 16,384.
+/// What a task keeps when it is loaded from something else: so many data words at least, 1 to 16,384, and the
+/// set of instructions that its text may have.
 #[derive(Debug, Drop)]
-pub(crate) struct LeastWords(u32);
-
-impl Model for LeastWords {
-    ghost use Rattle.std.specs.Prelude.{ℕ, ◌≤◌};
-    ghost use Rattle.tm_marker.specs.declared.shape.TheConstants.{MOST_WORDS};
-
-    ghost Value = { ℕ };
-
-    ghost view = { λ least. least.0 };
-
-    ghost invariant = { λ least. (1 ≤ least.0) × (least.0 ≤ MOST_WORDS) };
+pub(crate) struct Keeps {
+    least: u32,
+    set: Set,
 }
 
-impl LeastWords {
-    pub(crate) fn new(words: u32) -> LeastWords
-        requires some { 1 ≤ words }
-        requires few { words ≤ MOST_WORDS }
-        ensures { result ≡ words }
+impl Model for Keeps {
+    ghost use Rattle.std.specs.Prelude.{ℕ, ◌≤◌};
+    ghost use Rattle.tm_marker.specs.declared.shape.TheConstants.{MOST_WORDS};
+    ghost use Rattle.tm_rv.specs.declared.instr.Set.{Set};
+
+    ghost Value = { ℕ × Set };
+
+    ghost view = { λ keeps. (keeps.least, keeps.set) };
+
+    ghost invariant = { λ keeps. (1 ≤ keeps.least) × (keeps.least ≤ MOST_WORDS) };
+}
+
+impl Keeps {
+    pub(crate) fn new(least: u32, set: Set) -> Keeps
+        requires some { 1 ≤ least }
+        requires few { least ≤ MOST_WORDS }
+        ensures { result ≡ (least, set) }
     {
-        LeastWords(words)
+        Keeps { least, set }
     }
 }
 
-// An executable is read beside the number of data words that its task has at least.
-impl FileKind<LeastWords> for Loaded {
+// An executable is read beside what its task keeps.
+impl FileKind<Keeps> for Loaded {
+    ghost use Rattle.std.specs.Prelude.{◌≡◌};
     ghost use Rattle.tm_image.specs.Image.{IsLoad};
     ghost use Rattle.tm_prog.specs.declared.limits.TheConstants.{ELF_LIMIT};
     ghost use Rattle.tm_prog.specs.Files.{loaded_said};
@@ -191,10 +198,10 @@ impl FileKind<LeastWords> for Loaded {
 
     ghost reading = { loaded_said };
 
-    ghost sound = { λ _. IsLoad };
+    ghost sound = { λ keeps load. IsLoad load × (load.set ≡ keeps.1) };
 
-    fn read(alloc: Global, least: &LeastWords, bytes: &[u8]) -> Result<Loaded, Status> {
-        read_elf(alloc, bytes, least.0).map_err(elf_status)
+    fn read(alloc: Global, keeps: &Keeps, bytes: &[u8]) -> Result<Loaded, Status> {
+        read_elf(alloc, bytes, keeps.least, keeps.set).map_err(elf_status)
     }
 }
 

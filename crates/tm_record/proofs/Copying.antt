@@ -3,6 +3,7 @@ use Rattle.std.proofs.Common.{◌≡◌, ℕ, ◌<◌, [], length, ap, sym, ◌�
 use Rattle.std.proofs.lemmas.List.{length-map, get_or-map, same_lists}
 use Rattle.std.proofs.lemmas.Option.{unwrap_or-slice_get}
 use Rattle.tm_task.specs.Standing.{TaskView, task_view, boot_body}
+use Rattle.tm_rv.specs.declared.instr.Set.{Set}
 use Rattle.tm_image.specs.Image.{Load, ImageView, IsImage, shape_of}
 use Rattle.tm_system.specs.History.{History}
 use Rattle.tm_system.specs.Run.{run}
@@ -17,8 +18,8 @@ count t = length t.standing.body.words
 abbrev no_task : TaskView
 no_task = task_view 0 (boot_body 0 []) 0 0
 
-abbrev no_load : Load
-no_load = record { entry = 0; text = []; words = [] }
+abbrev no_load : Set → Load
+no_load set = record { entry = 0; text = []; set = set; words = [] }
 
 -- each task of the machine has as many data words as the image says
 pub counts_are : (r : RecorderView) → IsImage r.image → IsReal r → word_counts r.machine.tasks ≡ (shape_of r.image).words
@@ -35,8 +36,8 @@ counts_are r i real =
     get_or-map count r.machine.tasks k no_task d here
     ∙ ap count (sym (unwrap_or-slice_get r.machine.tasks k no_task) ∙ ap (λ (o : Option TaskView). unwrap_or o no_task) (at.each k there))
     ∙ (bodies.each k there).words
-    ∙ ap (λ (l : Load). length l.words) (unwrap_or-slice_get r.image.loads k no_load)
-    ∙ sym (get_or-map (λ (l : Load). length l.words) r.image.loads k no_load d there))
+    ∙ ap (λ (l : Load). length l.words) (unwrap_or-slice_get r.image.loads k (no_load r.image.set))
+    ∙ sym (get_or-map (λ (l : Load). length l.words) r.image.loads k (no_load r.image.set) d there))
 
 -- what the copying asks for
 pub record FitsCopy (r s : RecorderView) : Type 0 where

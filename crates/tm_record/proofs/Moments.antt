@@ -115,7 +115,7 @@ pub check_size : (image : ImageView) (w : WindowView) (t : ℕ) → IsWindow w �
     (checks_of w t).words ≡ length (load_of image t).words
 check_size image w t i s below =
     let many : length w.checks ≡ length image.loads = i.checks ∙ shape_tasks image w s in
-    let no_load : Load = record { entry = 0; text = []; words = [] } in
+    let no_load : Load = record { entry = 0; text = []; set = image.set; words = [] } in
     ap (λ (c : KeptChecks). c.words) (unwrap_or-slice_get w.checks t (kept_checks [] 0 0 0))
     ∙ sym (get_or-map (λ (c : KeptChecks). c.words) w.checks t (kept_checks [] 0 0 0) 0 (omega arith))
     ∙ ap (λ l. get_or l t 0) (i.check_words ∙ ap (λ (x : Shape). x.words) s)

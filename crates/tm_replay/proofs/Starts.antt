@@ -95,7 +95,7 @@ found w shape task epoch checks r o body formed below none same well looked ther
 pub starts_at : (image : ImageView) (w : WindowView) (task epoch : ℕ) (walker : Walker) (start : IsStart w task epoch) → walker.number ≡ task →
     walker.task.entry ≡ entry_of image task → walker.text.now ≡ text_of image task → walker.log.now ≡ log_of w task →
     walker.first ≡ start.check.data_number → walker.task.standing ≡ record { body = start.check.body; epoch = epoch; count = 0 } →
-    walker.used ≡ 0 → walker.made ≡ [] → 0 < length walker.text.now → length walker.text.now ≤ 16384 → IsTask walker.task →
+    walker.used ≡ 0 → walker.made ≡ [] → 0 < length walker.text.now.words → length walker.text.now.words ≤ 16384 → IsTask walker.task →
     StartsAt image w task epoch walker
 starts_at image w task epoch walker start number entry text log first standing used made some few is =
     let check : check_at w task epoch ≡ start.check = ap (λ o. unwrap_or o no_checkpoint) start.is in

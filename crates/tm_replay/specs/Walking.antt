@@ -35,7 +35,7 @@ place_of w = record { standing = w.task.standing; used = w.used; made = w.made }
 -- used than there are
 pub record IsSound (w : Walker) : Type 0 where
   pub walker : IsWalker (alone_of w) (place_of w)
-  pub some : 0 < length w.text.now
+  pub some : 0 < length w.text.now.words
   pub kept : first_of w.log.now ≤ w.first
   pub used : w.first + w.used ≤ w.log.now.total
 

@@ -5,6 +5,8 @@ use Rattle.std.proofs.lemmas.Bool.{and_parts, both_ways, eqb-true, eq-eqb, not-t
 use Rattle.std.proofs.lemmas.Option.{same_Some}
 use Rattle.std.specs.Prelude.{◌==◌, ◌&&◌, not, find, slice_get}
 use Rattle.std.specs.List.{list_all}
+use Rattle.tm_rv.specs.declared.instr.Set.{Set}
+use Rattle.tm_rv.specs.declared.instr.Set.TheVariants as set
 use Rattle.tm_rv.specs.Table.{Row, rows, belongs}
 use Rattle.tm_rv.specs.Laws.{NoWordInTwoRows}
 
@@ -63,5 +65,9 @@ one_place w (x ∷ rs) (suc i) zero r s apart at_i at_j in_r in_s =
 one_place w (x ∷ rs) (suc i) (suc j) r s apart at_i at_j in_r in_s =
     ap suc (one_place w rs i j r s (and_parts _ _ apart).1 at_i at_j in_r in_s)
 
+rows_apart : (s : Set) → all_apart (rows s) ≡ true
+rows_apart set.Base = refl
+rows_apart set.Mul = refl
+
 pub no_word_in_two : NoWordInTwoRows
-no_word_in_two word i j r s at_i at_j in_r in_s = one_place word rows i j r s refl at_i at_j in_r in_s
+no_word_in_two s word i j r t at_i at_j in_r in_t = one_place word (rows s) i j r t (rows_apart s) at_i at_j in_r in_t

@@ -6,6 +6,7 @@ use Rattle.std.proofs.lemmas.Option.{same_Some}
 use Rattle.std.specs.Prelude.{◌==◌, ◌&&◌, find, map}
 use Rattle.std.specs.Option.{option_map, IfSome}
 use Rattle.tm_rv.specs.declared.instr.Op.{Op}
+use Rattle.tm_rv.specs.declared.instr.Set.{Set}
 use Rattle.tm_rv.specs.declared.instr.Instr.{Instr}
 use Rattle.tm_rv.specs.Table.{Format, RType, IType, SType, BType, UType, JType, ShiftType, WordType, Row, row_for, operations, belongs, op_of}
 use Rattle.tm_rv.specs.Instr.{IsRegister, IsSignExtended, field, sign_extend, split, instr_of, FitsFormat, IsEncodable}
@@ -27,9 +28,9 @@ found p (o ∷ ops) op h =
           found p ops op (sym (ap (option_map (λ (r : Row). r.op)) later) ∙ h)
     ]
 
-row_from_op : (w : ℕ) (op : Op) → op_of w ≡ Some op → bit_and w (row_for op).mask ≡ (row_for op).bits
+row_from_op : (w : ℕ) (set : Set) (op : Op) → op_of w set ≡ Some op → bit_and w (row_for op).mask ≡ (row_for op).bits
 unfolding op_of
-row_from_op w op h = eqb-true _ _ (found (belongs w) operations op h)
+row_from_op w set op h = eqb-true _ _ (found (belongs w) (operations set) op h)
 
 -- what a number's sign extension keeps
 kept_12 : (n : ℕ) → n < 2 ^ 12 → sign_extend 12 n % 2 ^ 12 ≡ n
@@ -152,25 +153,25 @@ pub record IsDecoded (w : ℕ) (i : Instr) : Type 0 where
   pub again : word_of i ≡ w
   pub fits : IsEncodable i
 
-from_op : (w : ℕ) (o : Option Op) (i : Instr) → w < 2 ^ 32 → op_of w ≡ o →
+from_op : (w : ℕ) (set : Set) (o : Option Op) (i : Instr) → w < 2 ^ 32 → op_of w set ≡ o →
     option_map (λ op. split (row_for op).format op w) o ≡ Some i → IsDecoded w i
-from_op w None i small is_op h = cc
-from_op w (Some op) i small is_op h =
-    let apart = is_taken_apart (row_for op).format (row_for op).mask (row_for op).bits w op (row_is_regular op) small (row_from_op w op is_op) in
+from_op w set None i small is_op h = cc
+from_op w set (Some op) i small is_op h =
+    let apart = is_taken_apart (row_for op).format (row_for op).mask (row_for op).bits w op (row_is_regular op) small (row_from_op w set op is_op) in
     let same : split (row_for op).format op w ≡ i = same_Some _ _ h in
     let own : op ≡ i.op = sym (split_op (row_for op).format op w) ∙ ap (λ (x : Instr). x.op) same in
     let of_i : IsTakenApart (row_for op).format (row_for op).bits w i = subst (λ (x : Instr). IsTakenApart (row_for op).format (row_for op).bits w x) same apart in
     let of_op : IsTakenApart (row_for i.op).format (row_for i.op).bits w i = subst (λ (o : Op). IsTakenApart (row_for o).format (row_for o).bits w i) own of_i in
     record { again = of_op.again; fits = of_op.fits }
 
-pub is_decoded : (w : ℕ) (i : Instr) → w < 2 ^ 32 → instr_of w ≡ Some i → IsDecoded w i
+pub is_decoded : (w : ℕ) (set : Set) (i : Instr) → w < 2 ^ 32 → instr_of w set ≡ Some i → IsDecoded w i
 unfolding instr_of
-is_decoded w i small h = from_op w (op_of w) i small refl h
+is_decoded w set i small h = from_op w set (op_of w set) i small refl h
 
 -- what a word is decoded to is encodable
-encodable_from : (w : ℕ) (o : Option Instr) → w < 2 ^ 32 → o ≡ instr_of w → IfSome o IsEncodable
-encodable_from w None small h = tt
-encodable_from w (Some i) small h = (is_decoded w i small (sym h)).fits
+encodable_from : (w : ℕ) (set : Set) (o : Option Instr) → w < 2 ^ 32 → o ≡ instr_of w set → IfSome o IsEncodable
+encodable_from w set None small h = tt
+encodable_from w set (Some i) small h = (is_decoded w set i small (sym h)).fits
 
 -- an encodable instruction's fields are in the range of their types, and registers below 32
 pub record HasSmallFields (i : Instr) : Type 0 where
@@ -210,7 +211,7 @@ pub record AreSound (o : Option Instr) : Type 0 where
   pub registers : IfSome o (λ i. IsRegister i.rd × IsRegister i.rs1 × IsRegister i.rs2)
   pub immediate : IfSome o (λ i. i.imm < 2 ^ 32)
 
-pub decoded_from : (w : ℕ) (o : Option Instr) → w < 2 ^ 32 → o ≡ instr_of w → AreSound o
-decoded_from w o small same =
-    let fits : IfSome o IsEncodable = encodable_from w o small same in
+pub decoded_from : (w : ℕ) (set : Set) (o : Option Instr) → w < 2 ^ 32 → o ≡ instr_of w set → AreSound o
+decoded_from w set o small same =
+    let fits : IfSome o IsEncodable = encodable_from w set o small same in
     record { encodable = fits; registers = registers_from o fits; immediate = immediate_from o fits }

@@ -4,6 +4,7 @@ use Rattle.std.proofs.lemmas.Bool.{and_parts, eqb-true, eq-eqb, ltb-true}
 use Rattle.std.specs.Prelude.{◌==◌, ◌&&◌, nat_lt}
 use Rattle.std.specs.Option.{option_map}
 use Rattle.tm_rv.specs.declared.instr.Op.{Op}
+use Rattle.tm_rv.specs.declared.instr.Set.TheVariants as set
 use Rattle.tm_rv.specs.declared.instr.Instr.{Instr}
 use Rattle.tm_rv.specs.Table.{Format, RType, IType, SType, BType, UType, JType, ShiftType, WordType, Row, row_for, rows, op_of}
 use Rattle.tm_rv.specs.Instr.{field, sign_extend, split, instr, instr_of, FitsFormat, IsEncodable}
@@ -193,17 +194,17 @@ pub has_word : (i : Instr) → IsEncodable i → IsWordFor (row_for i.op).format
 has_word i fits = is_word_for (row_for i.op).format (row_for i.op).mask (row_for i.op).bits i (row_is_regular i.op) fits
 
 -- a word that belongs to the row of an operation has that operation
-pub op_from_row : (w : ℕ) (op : Op) → bit_and w (row_for op).mask ≡ (row_for op).bits → op_of w ≡ Some op
+pub op_from_row : (w : ℕ) (op : Op) → bit_and w (row_for op).mask ≡ (row_for op).bits → op_of w set.Mul ≡ Some op
 unfolding op_of
 op_from_row w op left =
     let place = listed op in
-    ap (option_map (λ (r : Row). r.op)) (first_row w rows place.place (row_for op) refl place.there (eq-eqb _ _ left)) ∙ ap Some place.own
+    ap (option_map (λ (r : Row). r.op)) (first_row w (rows set.Mul) place.place (row_for op) refl place.there (eq-eqb _ _ left)) ∙ ap Some place.own
 
-pub word_decodes : (i : Instr) → IsEncodable i → instr_of (word_of i) ≡ Some i
+pub word_decodes : (i : Instr) → IsEncodable i → instr_of (word_of i) set.Mul ≡ Some i
 unfolding instr_of
 word_decodes i fits =
     let word = has_word i fits in
     ap (option_map (λ op. split (row_for op).format op (word_of i))) (op_from_row (word_of i) i.op word.left) ∙ ap Some word.parts
 
-pub decodes_from : (i : Instr) (w : ℕ) → IsEncodable i → w ≡ word_of i → instr_of w ≡ Some i
-decodes_from i w fits e = subst (λ n. instr_of n ≡ Some i) (sym e) (word_decodes i fits)
+pub decodes_from : (i : Instr) (w : ℕ) → IsEncodable i → w ≡ word_of i → instr_of w set.Mul ≡ Some i
+decodes_from i w fits e = subst (λ n. instr_of n set.Mul ≡ Some i) (sym e) (word_decodes i fits)

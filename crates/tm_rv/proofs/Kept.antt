@@ -1,6 +1,7 @@
 -- What is known of the instruction that is kept for a word.
 use Rattle.std.proofs.Common.{◌≡◌, refl, ℕ, false, Option, Some, None, arith}
 use Rattle.std.specs.Option.{option_map}
+use Rattle.tm_rv.specs.declared.instr.Set.{Set}
 use Rattle.tm_rv.specs.declared.instr.Op.{Op}
 use Rattle.tm_rv.specs.declared.instr.Op.TheVariants.{Ebreak}
 use Rattle.tm_rv.specs.Table.{Format, RType, IType, SType, BType, UType, JType, ShiftType, WordType, row_for, op_of}
@@ -31,11 +32,11 @@ of_operation_some None word = tt
 of_operation_some (Some op) word = split_is_some op word
 
 -- the registers of what is kept are in range, for any number
-pub kept_registers : (word : ℕ) → HasRegisters (kept (instr_of word))
+pub kept_registers : (word : ℕ) (set : Set) → HasRegisters (kept (instr_of word set))
 unfolding instr_of
-kept_registers word = of_operation_registers (op_of word) word
+kept_registers word set = of_operation_registers (op_of word set) word
 
 -- no instruction of a word is taken for none
-pub never_none : (word : ℕ) → IsNeverNone (instr_of word)
+pub never_none : (word : ℕ) (set : Set) → IsNeverNone (instr_of word set)
 unfolding instr_of
-never_none word = of_operation_some (op_of word) word
+never_none word set = of_operation_some (op_of word set) word

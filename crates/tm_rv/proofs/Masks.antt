@@ -1,13 +1,16 @@
 -- What the table's masks leave of a word, and that the decoder's fields tell the same.
-use Rattle.std.proofs.Common.{◌≡◌, ℕ, ◌+◌, ◌-◌, ◌*◌, ◌/◌, ◌%◌, ◌^◌, ◌<◌, refl, ap, ◌∙◌, arith, Bool, true, List, [], ◌∷◌, bit_and}
+use Rattle.std.proofs.Common.{◌≡◌, ℕ, ◌+◌, ◌-◌, ◌*◌, ◌/◌, ◌%◌, ◌^◌, ◌<◌, refl, ap, ◌∙◌, arith, Bool, true, List, [], ◌∷◌, ◌++◌, map, Option, Some, None, bit_and}
 use Rattle.std.proofs.lemmas.Nat.{and_mask, and_block, one_shl}
 use Rattle.std.proofs.lemmas.Bool.{and_parts, eqb-true}
 use Rattle.std.proofs.lemmas.Bool.Decides.{nat_tests}
 use Rattle.std.specs.Prelude.{◌==◌, ◌&&◌, find}
 use Rattle.std.specs.List.{list_all}
-use Rattle.std.specs.Option.{option_map}
-use Rattle.tm_rv.specs.Table.{Format, RType, IType, SType, BType, UType, JType, ShiftType, WordType, Row, rows, belongs, op_of}
-use Rattle.tm_rv.specs.ByFields.{has_opcode, has_funct3, has_funct7, fields_match, op_by}
+use Rattle.std.specs.Option.{option_map, option_or}
+use Rattle.std.proofs.lemmas.List.Folds.{find-append}
+use Rattle.tm_rv.specs.declared.instr.Op.{Op}
+use Rattle.tm_rv.specs.declared.instr.Set.TheVariants as set
+use Rattle.tm_rv.specs.Table.{Format, RType, IType, SType, BType, UType, JType, ShiftType, WordType, Row, row_for, base, multiplications, belongs, op_of}
+use Rattle.tm_rv.specs.ByFields.{has_opcode, has_funct3, has_funct7, fields_match, op_among, op_by}
 use Rattle.tm_rv.proofs.Rows.{is_regular, in_opcode, in_funct3, in_funct7}
 
 -- the code's mask of the lowest bits
@@ -90,7 +93,27 @@ same_find w (r ∷ rs) small regular =
     let rest = same_find w rs small (and_parts _ _ regular).1 in
     rw (here, rest)
 
-pub op_of_is : (word : ℕ) → word < 2 ^ 32 →
-    op_of word ≡ op_by (bit_and word 0x7f) (bit_and (word / 2 ^ 12) 7) (word / 2 ^ 25) word
+-- the operation that the masks tell among regular rows is the one that the fields tell
+same_op : (ops : List Op) (word : ℕ) → word < 2 ^ 32 → list_all (λ r. is_regular r.format r.mask r.bits) (map row_for ops) ≡ true →
+    option_map (λ (r : Row). r.op) (find (belongs word) (map row_for ops)) ≡ op_among ops (opcode word) (funct3 word) (funct7 word) word
+same_op ops word small regular = ap (option_map (λ (r : Row). r.op)) (same_find word (map row_for ops) small regular)
+
+op_or : (x y : Option Row) → option_map (λ (r : Row). r.op) (option_or x y) ≡ option_or (option_map (λ (r : Row). r.op) x) (option_map (λ (r : Row). r.op) y)
+op_or None y = refl
+op_or (Some r) y = refl
+
+pub op_of_base : (word : ℕ) → word < 2 ^ 32 →
+    op_of word set.Base ≡ op_by (bit_and word 0x7f) (bit_and (word / 2 ^ 12) 7) (word / 2 ^ 25) word
 unfolding op_of
-op_of_is word small = ap (option_map (λ (r : Row). r.op)) (same_find word rows small refl)
+op_of_base word small = same_op base word small refl
+
+pub op_of_mul : (word : ℕ) → word < 2 ^ 32 →
+    op_of word set.Mul ≡ option_or
+    (op_by (bit_and word 0x7f) (bit_and (word / 2 ^ 12) 7) (word / 2 ^ 25) word)
+    (op_among multiplications (bit_and word 0x7f) (bit_and (word / 2 ^ 12) 7) (word / 2 ^ 25) word)
+unfolding op_of
+op_of_mul word small =
+    let has : Row → Bool = λ r. fields_match r.format r.bits (opcode word) (funct3 word) (funct7 word) word in
+    same_op (base ++ multiplications) word small refl
+    ∙ (ap (option_map (λ (r : Row). r.op)) (find-append has (map row_for base) (map row_for multiplications))
+    ∙ op_or (find has (map row_for base)) (find has (map row_for multiplications)))

@@ -5,13 +5,14 @@ use Rattle.std.proofs.lemmas.Option.{same_Some}
 use Rattle.std.specs.Prelude.{◌==◌, ◌&&◌, nat_lt, slice_get}
 use Rattle.std.specs.List.{list_all}
 use Rattle.tm_rv.specs.declared.instr.Op.{Op}
-use Rattle.tm_rv.specs.declared.instr.Op.TheVariants.{Lui, Auipc, Jal, Jalr, Beq, Bne, Blt, Bge, Bltu, Bgeu, Lb, Lh, Lw, Lbu, Lhu, Sb, Sh, Sw, Addi, Slti, Sltiu, Xori, Ori, Andi, Slli, Srli, Srai, Add, Sub, Sll, Slt, Sltu, Xor, Srl, Sra, Or, And, Fence, Ecall, Ebreak}
+use Rattle.tm_rv.specs.declared.instr.Op.TheVariants.{Lui, Auipc, Jal, Jalr, Beq, Bne, Blt, Bge, Bltu, Bgeu, Lb, Lh, Lw, Lbu, Lhu, Sb, Sh, Sw, Addi, Slti, Sltiu, Xori, Ori, Andi, Slli, Srli, Srai, Add, Sub, Sll, Slt, Sltu, Xor, Srl, Sra, Or, And, Fence, Ecall, Ebreak, Mul, Mulh, Mulhsu, Mulhu, Div, Divu, Rem, Remu}
+use Rattle.tm_rv.specs.declared.instr.Set.TheVariants as set
 use Rattle.tm_rv.specs.Table.{Format, RType, IType, SType, BType, UType, JType, ShiftType, WordType, Row, row_for, rows}
 
--- each operation has a place in the table, and is its row's
+-- each operation has a place in the greater table, and is its row's
 pub record IsListed (op : Op) : Type 0 where
   pub place : ℕ
-  pub there : slice_get rows place ≡ Some (row_for op)
+  pub there : slice_get (rows set.Mul) place ≡ Some (row_for op)
   pub own : (row_for op).op ≡ op
 
 pub listed : (op : Op) → IsListed op
@@ -55,6 +56,14 @@ listed And = record { place = 36; there = refl; own = refl }
 listed Fence = record { place = 37; there = refl; own = refl }
 listed Ecall = record { place = 38; there = refl; own = refl }
 listed Ebreak = record { place = 39; there = refl; own = refl }
+listed Mul = record { place = 40; there = refl; own = refl }
+listed Mulh = record { place = 41; there = refl; own = refl }
+listed Mulhsu = record { place = 42; there = refl; own = refl }
+listed Mulhu = record { place = 43; there = refl; own = refl }
+listed Div = record { place = 44; there = refl; own = refl }
+listed Divu = record { place = 45; there = refl; own = refl }
+listed Rem = record { place = 46; there = refl; own = refl }
+listed Remu = record { place = 47; there = refl; own = refl }
 
 -- bits that stand in the opcode; with funct3; with funct7
 abbrev pub in_opcode : ℕ → Bool
@@ -85,4 +94,4 @@ regular_at (x ∷ rs) zero r all at =
 regular_at (x ∷ rs) (suc k) r all at = regular_at rs k r (and_parts _ _ all).1 at
 
 pub row_is_regular : (op : Op) → is_regular (row_for op).format (row_for op).mask (row_for op).bits ≡ true
-row_is_regular op = regular_at rows (listed op).place (row_for op) refl (listed op).there
+row_is_regular op = regular_at (rows set.Mul) (listed op).place (row_for op) refl (listed op).there

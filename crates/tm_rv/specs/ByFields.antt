@@ -1,8 +1,8 @@
 -- The rows as the decoder tells them apart: by opcode, funct3 and funct7 in place of masks.
-use Rattle.std.specs.Prelude.{ℕ, ◌/◌, ◌%◌, ◌^◌, Option, Bool, ◌==◌, ◌&&◌, find}
+use Rattle.std.specs.Prelude.{ℕ, ◌/◌, ◌%◌, ◌^◌, Option, Bool, List, ◌==◌, ◌&&◌, find, map}
 use Rattle.std.specs.Option.{option_map}
 use Rattle.tm_rv.specs.declared.instr.Op.{Op}
-use Rattle.tm_rv.specs.Table.{Format, RType, IType, SType, BType, UType, JType, ShiftType, WordType, rows}
+use Rattle.tm_rv.specs.Table.{Format, RType, IType, SType, BType, UType, JType, ShiftType, WordType, row_for, base}
 
 -- the opcode of these bits
 abbrev pub has_opcode : ℕ → ℕ → Bool
@@ -27,7 +27,11 @@ fields_match JType bits opcode funct3 funct7 word = has_opcode bits opcode
 fields_match ShiftType bits opcode funct3 funct7 word = has_funct7 bits opcode funct3 funct7
 fields_match WordType bits opcode funct3 funct7 word = has_opcode bits opcode && word == bits
 
--- the operation of the first row that has these fields
+-- the operation of the first of these rows that has these fields
+abbrev pub op_among : List Op → ℕ → ℕ → ℕ → ℕ → Option Op
+op_among ops opcode funct3 funct7 word =
+    option_map (λ r. r.op) (find (λ r. fields_match r.format r.bits opcode funct3 funct7 word) (map row_for ops))
+
+-- the operation of RV32I that has these fields
 abbrev pub op_by : ℕ → ℕ → ℕ → ℕ → Option Op
-op_by opcode funct3 funct7 word =
-    option_map (λ r. r.op) (find (λ r. fields_match r.format r.bits opcode funct3 funct7 word) rows)
+op_by = op_among base

@@ -1,9 +1,15 @@
--- The instruction that is kept for a word.
-use Rattle.std.specs.Prelude.{◌≡◌, Bool, true, false, ◌==◌, ◌&&◌, Option, Some, None, IfSome}
+-- A text, and the instruction that is kept for each of its words.
+use Rattle.std.specs.Prelude.{◌≡◌, ℕ, List, Bool, true, false, ◌==◌, ◌&&◌, Option, Some, None, IfSome}
 use Rattle.tm_rv.specs.declared.instr.Op.{Op}
 use Rattle.tm_rv.specs.declared.instr.Op.TheVariants.{Ebreak}
 use Rattle.tm_rv.specs.declared.instr.Instr.{Instr}
+use Rattle.tm_rv.specs.declared.instr.Set.{Set}
 use Rattle.tm_rv.specs.Instr.{IsRegister, instr}
+
+-- a text: its words, and the instructions that they may be
+pub record Text : Type 0 where
+  pub words : List ℕ
+  pub set : Set
 
 -- an instruction is kept as it is, and none as an EBREAK whose immediate is 1
 abbrev pub kept : Option Instr → Instr

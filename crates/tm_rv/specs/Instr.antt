@@ -3,6 +3,7 @@ use Rattle.std.specs.Prelude.{◌≡◌, ℕ, ◌+◌, ◌-◌, ◌*◌, ◌/◌
 use Rattle.std.specs.Option.{option_map}
 use Rattle.tm_rv.specs.declared.instr.Op.{Op}
 use Rattle.tm_rv.specs.declared.instr.Instr.{Instr}
+use Rattle.tm_rv.specs.declared.instr.Set.{Set}
 use Rattle.tm_rv.specs.Table.{Format, RType, IType, SType, BType, UType, JType, ShiftType, WordType, row_for, op_of}
 
 -- the bits of a word from `high` down to `low`, as a number
@@ -61,9 +62,9 @@ split WordType op w = instr op 0 0 0 (imm_of WordType w)
 abbrev pub instr_with : Option Op → ℕ → Option Instr
 instr_with operation word = option_map (λ op. split (row_for op).format op word) operation
 
--- the instruction that a word is, if it belongs to a row
-unfoldable pub instr_of : ℕ → Option Instr
-instr_of word = instr_with (op_of word) word
+-- the instruction that a word is, if it belongs to a row of the set's table
+unfoldable pub instr_of : ℕ → Set → Option Instr
+instr_of word set = instr_with (op_of word set) word
 
 -- a number of 32 bits that is the sign extension of its lowest bits
 abbrev pub IsSignExtended : ℕ → ℕ → Type 0

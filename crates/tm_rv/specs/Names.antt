@@ -1,7 +1,7 @@
 -- The names of the operations.
 use Rattle.std.specs.Prelude.{ℕ, List, codes}
 use Rattle.tm_rv.specs.declared.instr.Op.{Op}
-use Rattle.tm_rv.specs.declared.instr.Op.TheVariants.{Lui, Auipc, Jal, Jalr, Beq, Bne, Blt, Bge, Bltu, Bgeu, Lb, Lh, Lw, Lbu, Lhu, Sb, Sh, Sw, Addi, Slti, Sltiu, Xori, Ori, Andi, Slli, Srli, Srai, Add, Sub, Sll, Slt, Sltu, Xor, Srl, Sra, Or, And, Fence, Ecall, Ebreak}
+use Rattle.tm_rv.specs.declared.instr.Op.TheVariants.{Lui, Auipc, Jal, Jalr, Beq, Bne, Blt, Bge, Bltu, Bgeu, Lb, Lh, Lw, Lbu, Lhu, Sb, Sh, Sw, Addi, Slti, Sltiu, Xori, Ori, Andi, Slli, Srli, Srai, Add, Sub, Sll, Slt, Sltu, Xor, Srl, Sra, Or, And, Fence, Ecall, Ebreak, Mul, Mulh, Mulhsu, Mulhu, Div, Divu, Rem, Remu}
 
 -- the bytes of an operation's name
 abbrev pub name_of : Op → List ℕ
@@ -45,3 +45,11 @@ name_of And = codes "and"
 name_of Fence = codes "fence"
 name_of Ecall = codes "ecall"
 name_of Ebreak = codes "ebreak"
+name_of Mul = codes "mul"
+name_of Mulh = codes "mulh"
+name_of Mulhsu = codes "mulhsu"
+name_of Mulhu = codes "mulhu"
+name_of Div = codes "div"
+name_of Divu = codes "divu"
+name_of Rem = codes "rem"
+name_of Remu = codes "remu"

@@ -1,8 +1,10 @@
 -- The table of the instructions: for each operation its format, and the words that belong to it.
-use Rattle.std.specs.Prelude.{ℕ, List, [], ◌∷◌, Option, Bool, ◌==◌, find, map, bit_and}
+use Rattle.std.specs.Prelude.{ℕ, List, [], ◌∷◌, ◌++◌, Option, Bool, ◌==◌, find, map, bit_and}
 use Rattle.std.specs.Option.{option_map}
 use Rattle.tm_rv.specs.declared.instr.Op.{Op}
-use Rattle.tm_rv.specs.declared.instr.Op.TheVariants.{Lui, Auipc, Jal, Jalr, Beq, Bne, Blt, Bge, Bltu, Bgeu, Lb, Lh, Lw, Lbu, Lhu, Sb, Sh, Sw, Addi, Slti, Sltiu, Xori, Ori, Andi, Slli, Srli, Srai, Add, Sub, Sll, Slt, Sltu, Xor, Srl, Sra, Or, And, Fence, Ecall, Ebreak}
+use Rattle.tm_rv.specs.declared.instr.Set.{Set}
+use Rattle.tm_rv.specs.declared.instr.Set.TheVariants as set
+use Rattle.tm_rv.specs.declared.instr.Op.TheVariants.{Lui, Auipc, Jal, Jalr, Beq, Bne, Blt, Bge, Bltu, Bgeu, Lb, Lh, Lw, Lbu, Lhu, Sb, Sh, Sw, Addi, Slti, Sltiu, Xori, Ori, Andi, Slli, Srli, Srai, Add, Sub, Sll, Slt, Sltu, Xor, Srl, Sra, Or, And, Fence, Ecall, Ebreak, Mul, Mulh, Mulhsu, Mulhu, Div, Divu, Rem, Remu}
 
 -- where a word has its fields: the standard's six formats, a shift by an immediate amount, and
 -- an operation that is one word
@@ -69,24 +71,41 @@ row_for And = row And RType 0xfe00707f 0x00007033
 row_for Fence = row Fence IType 0x0000707f 0x0000000f
 row_for Ecall = row Ecall WordType 0xffffffff 0x00000073
 row_for Ebreak = row Ebreak WordType 0xffffffff 0x00100073
+row_for Mul = row Mul RType 0xfe00707f 0x02000033
+row_for Mulh = row Mulh RType 0xfe00707f 0x02001033
+row_for Mulhsu = row Mulhsu RType 0xfe00707f 0x02002033
+row_for Mulhu = row Mulhu RType 0xfe00707f 0x02003033
+row_for Div = row Div RType 0xfe00707f 0x02004033
+row_for Divu = row Divu RType 0xfe00707f 0x02005033
+row_for Rem = row Rem RType 0xfe00707f 0x02006033
+row_for Remu = row Remu RType 0xfe00707f 0x02007033
 
--- every operation, in the order of the table
-abbrev pub operations : List Op
-operations =
+-- the operations of RV32I, in the order of the table
+abbrev pub base : List Op
+base =
     Lui ∷ Auipc ∷ Jal ∷ Jalr ∷ Beq ∷ Bne ∷ Blt ∷ Bge ∷ Bltu ∷ Bgeu ∷
     Lb ∷ Lh ∷ Lw ∷ Lbu ∷ Lhu ∷ Sb ∷ Sh ∷ Sw ∷
     Addi ∷ Slti ∷ Sltiu ∷ Xori ∷ Ori ∷ Andi ∷ Slli ∷ Srli ∷ Srai ∷
     Add ∷ Sub ∷ Sll ∷ Slt ∷ Sltu ∷ Xor ∷ Srl ∷ Sra ∷ Or ∷ And ∷
     Fence ∷ Ecall ∷ Ebreak ∷ []
 
--- the table
-abbrev pub rows : List Row
-rows = map row_for operations
+-- the operations of RV32M
+abbrev pub multiplications : List Op
+multiplications = Mul ∷ Mulh ∷ Mulhsu ∷ Mulhu ∷ Div ∷ Divu ∷ Rem ∷ Remu ∷ []
+
+-- the operations of a set
+abbrev pub operations : Set → List Op
+operations set.Base = base
+operations set.Mul = base ++ multiplications
+
+-- the table of a set
+abbrev pub rows : Set → List Row
+rows s = map row_for (operations s)
 
 -- the mask leaves the row's bits of the word
 abbrev pub belongs : ℕ → Row → Bool
 belongs word r = bit_and word r.mask == r.bits
 
--- the operation of the first row that the word belongs to
-unfoldable pub op_of : ℕ → Option Op
-op_of word = option_map (λ r. r.op) (find (belongs word) rows)
+-- the operation of the first row of the set's table that the word belongs to
+unfoldable pub op_of : ℕ → Set → Option Op
+op_of word s = option_map (λ r. r.op) (find (belongs word) (rows s))

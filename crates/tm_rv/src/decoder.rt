@@ -1,12 +1,12 @@
 //! From a word to the operation and to the instruction that it is.
 
 ghost use Rattle.std.specs.Prelude.{◌≡◌, ℕ, ◌^◌, ◌<◌, IfSome};
-ghost use Rattle.tm_rv.specs.ByFields.{op_by};
+ghost use Rattle.tm_rv.specs.ByFields.{op_among, op_by};
 ghost use Rattle.tm_rv.specs.Instr.{instr_of, instr_with, IsRegister, IsEncodable};
-ghost use Rattle.tm_rv.specs.Table.{op_of};
+ghost use Rattle.tm_rv.specs.Table.{multiplications, op_of};
 
 use crate::formats::split;
-use crate::{Instr, Op};
+use crate::{Instr, Op, Set};
 
 // The major opcodes, by their names in table 24.1, "RISC-V base opcode map".
 const LOAD: u32 = 0b00_000_11;
@@ -31,35 +31,43 @@ const JAL: u32 = 0b11_011_11;
 
 const SYSTEM: u32 = 0b11_100_11;
 
+// What tells the multiplications and divisions from the rest of OP.
+const MULDIV: u32 = 0b0000001;
+
 // The two words of SYSTEM.
 const ECALL: u32 = 0x0000_0073;
 
 const EBREAK: u32 = 0x0010_0073;
 
-/// The instruction that a word is, or `None` where no row of the table matches (chapter 24,
-/// "RV32/64G Instruction Set Listings", RV32I Base Instruction Set).
+/// The instruction that a word is, or `None` where no row of the set's table matches (chapter 24,
+/// "RV32/64G Instruction Set Listings", RV32I Base Instruction Set and RV32M Standard Extension).
 #[inline]
-pub fn decode(word: u32) -> Option<Instr>
-    ensures table { result ≡ instr_of word }
+pub fn decode(word: u32, set: Set) -> Option<Instr>
+    ensures table { result ≡ instr_of word set }
     ensures encodable { IfSome result IsEncodable }
     ensures registers { IfSome result (λ i. IsRegister i.rd × IsRegister i.rs1 × IsRegister i.rs2) }
     ensures immediate { IfSome result (λ i. i.imm < 2 ^ 32) }
 {
-    match operation(word) {
+    match operation(word, set) {
         Some(op) => Some(split(op, word)),
         None => None,
     }
 }
 
-/// The operation that a word asks for, or `None` where no row of the table matches. The
+/// The operation that a word asks for, or `None` where no row of the set's table matches. The
 /// instruction's fields are those of the operation's format: [`crate::rd`] and its like take each
 /// out of the word by itself, for who needs no whole [`Instr`].
 #[inline]
-pub fn operation(word: u32) -> Option<Op>
-    ensures table { result ≡ op_of word }
-    ensures decoded { instr_of word ≡ instr_with result word }
+pub fn operation(word: u32, set: Set) -> Option<Op>
+    ensures table { result ≡ op_of word set }
+    ensures decoded { instr_of word set ≡ instr_with result word }
 {
-    by_fields(word & 0x7f, (word >> 12) & 7, word >> 25, word)
+    let (opcode, funct3, funct7) = (word & 0x7f, (word >> 12) & 7, word >> 25);
+    let base = by_fields(opcode, funct3, funct7, word);
+    match set {
+        Set::Base => base,
+        Set::Mul => base.or(multiplication(opcode, funct3, funct7)),
+    }
 }
 
 /// The opcode tells the format, but for shifts by an immediate amount.
@@ -163,6 +171,28 @@ fn with_register(funct3: u32, funct7: u32) -> Option<Op>
         (0b101, 0b0100000) => Some(Op::Sra),
         (0b110, 0b0000000) => Some(Op::Or),
         (0b111, 0b0000000) => Some(Op::And),
+        _ => None,
+    }
+}
+
+/// The multiplications and divisions.
+#[inline]
+#[tactic(auto, using(std::proofs::lemmas::Bool::Decides::nat_tests))]
+fn multiplication(opcode: u32, funct3: u32, funct7: u32) -> Option<Op>
+    ensures { (word : ℕ) → result ≡ op_among multiplications opcode funct3 funct7 word }
+{
+    if opcode != OP || funct7 != MULDIV {
+        return None;
+    }
+    match funct3 {
+        0b000 => Some(Op::Mul),
+        0b001 => Some(Op::Mulh),
+        0b010 => Some(Op::Mulhsu),
+        0b011 => Some(Op::Mulhu),
+        0b100 => Some(Op::Div),
+        0b101 => Some(Op::Divu),
+        0b110 => Some(Op::Rem),
+        0b111 => Some(Op::Remu),
         _ => None,
     }
 }

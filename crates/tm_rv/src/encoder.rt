@@ -1,6 +1,7 @@
 //! From an instruction to the word that means it.
 
 ghost use Rattle.std.specs.Prelude.{◌≡◌, ℕ, ◌^◌, ◌<◌};
+ghost use Rattle.tm_rv.specs.declared.instr.Set.{Set};
 ghost use Rattle.tm_rv.specs.Table.{row_for, BType, JType};
 ghost use Rattle.tm_rv.specs.Instr.{instr_of, IsEncodable};
 ghost use Rattle.tm_rv.specs.Word.{placed};
@@ -8,14 +9,14 @@ ghost use Rattle.tm_rv.specs.Word.{placed};
 use crate::bits::field;
 use crate::{Instr, Op};
 
-/// The one word that is decoded to this instruction, so that [`crate::decode`] and `encode` undo
-/// each other. The fields have to be in the range of the operation's format: registers below 32,
+/// The one word that is decoded to this instruction where the set has it, so that [`crate::decode`] and
+/// `encode` undo each other. The fields have to be in the range of the operation's format: registers below 32,
 /// an immediate that the format can hold, and 0 for what the format lacks (2.2 "Base Instruction
 /// Formats", 2.3 "Immediate Encoding Variants").
 pub fn encode(instr: &Instr) -> u32
     requires { IsEncodable instr.now }
-    ensures decodes { instr_of result ≡ Some instr.now }
-    ensures only { (word : ℕ) → word < 2 ^ 32 → instr_of word ≡ Some instr.now → result ≡ word }
+    ensures decodes { instr_of result Set.Mul ≡ Some instr.now }
+    ensures only { (word : ℕ) (set : Set) → word < 2 ^ 32 → instr_of word set ≡ Some instr.now → result ≡ word }
 {
     // No two of the parts have a bit in common.
     fixed_bits(instr.op)
@@ -70,6 +71,14 @@ fn fixed_bits(op: Op) -> u32
         Op::Fence => 0x0000_000f,
         Op::Ecall => 0x0000_0073,
         Op::Ebreak => 0x0010_0073,
+        Op::Mul => 0x0200_0033,
+        Op::Mulh => 0x0200_1033,
+        Op::Mulhsu => 0x0200_2033,
+        Op::Mulhu => 0x0200_3033,
+        Op::Div => 0x0200_4033,
+        Op::Divu => 0x0200_5033,
+        Op::Rem => 0x0200_6033,
+        Op::Remu => 0x0200_7033,
     }
 }
 
@@ -94,7 +103,15 @@ fn placed_immediate(op: Op, imm: u32) -> u32
         | Op::Or
         | Op::And
         | Op::Ecall
-        | Op::Ebreak => 0,
+        | Op::Ebreak
+        | Op::Mul
+        | Op::Mulh
+        | Op::Mulhsu
+        | Op::Mulhu
+        | Op::Div
+        | Op::Divu
+        | Op::Rem
+        | Op::Remu => 0,
         Op::Jalr
         | Op::Lb
         | Op::Lh

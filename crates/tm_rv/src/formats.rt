@@ -140,7 +140,15 @@ pub(crate) fn split(op: Op, word: u32) -> Instr
         | Op::Srl
         | Op::Sra
         | Op::Or
-        | Op::And => Instr {
+        | Op::And
+        | Op::Mul
+        | Op::Mulh
+        | Op::Mulhsu
+        | Op::Mulhu
+        | Op::Div
+        | Op::Divu
+        | Op::Rem
+        | Op::Remu => Instr {
             rd: rd(word),
             rs1: rs1(word),
             rs2: rs2(word),

@@ -1,10 +1,19 @@
-//! What an instruction is: its operation and its fields.
+//! What an instruction is, its operation and its fields, and the sets of instructions.
 
-/// The forty operations of RV32I, in the order of the table.
+/// The instructions that a text may have.
+#[derive(Clone, Copy, Debug, PartialEq, Eq)]
+pub enum Set {
+    /// RV32I alone.
+    Base,
+    /// RV32I with RV32M, the standard extension for integer multiplication and division.
+    Mul,
+}
+
+/// The forty operations of RV32I and the eight of RV32M, in the order of the table.
 ///
 /// Their sections are 2.4 "Integer Computational Instructions", 2.5 "Control Transfer
-/// Instructions", 2.6 "Load and Store Instructions", 2.7 "Memory Ordering Instructions" and 2.8
-/// "Environment Call and Breakpoints".
+/// Instructions", 2.6 "Load and Store Instructions", 2.7 "Memory Ordering Instructions", 2.8
+/// "Environment Call and Breakpoints", 7.1 "Multiplication Operations" and 7.2 "Division Operations".
 #[derive(Clone, Copy, Debug, PartialEq, Eq)]
 pub enum Op {
     /// Load upper immediate (2.4).
@@ -87,6 +96,22 @@ pub enum Op {
     Ecall,
     /// Call the debugger (2.8).
     Ebreak,
+    /// Multiply: the low 32 bits of the product (7.1).
+    Mul,
+    /// Multiply, both signed: the high 32 bits of the product (7.1).
+    Mulh,
+    /// Multiply, the first signed and the second unsigned: the high 32 bits of the product (7.1).
+    Mulhsu,
+    /// Multiply, both unsigned: the high 32 bits of the product (7.1).
+    Mulhu,
+    /// Divide, signed, rounded towards zero (7.2).
+    Div,
+    /// Divide, unsigned (7.2).
+    Divu,
+    /// Remainder, signed, with the sign of the dividend (7.2).
+    Rem,
+    /// Remainder, unsigned (7.2).
+    Remu,
 }
 
 /// An instruction. A field that the operation's format lacks is 0.

@@ -51,5 +51,13 @@ pub fn name(instr: &Instr) -> &'static str
         Op::Fence => "fence",
         Op::Ecall => "ecall",
         Op::Ebreak => "ebreak",
+        Op::Mul => "mul",
+        Op::Mulh => "mulh",
+        Op::Mulhsu => "mulhsu",
+        Op::Mulhu => "mulhu",
+        Op::Div => "div",
+        Op::Divu => "divu",
+        Op::Rem => "rem",
+        Op::Remu => "remu",
     }
 }

@@ -1,7 +1,7 @@
 //! The table against words that another assembler made, apart from this crate.
 
 use std::test::Fail;
-use tm_rv::{Code, Instr, Op, decode, encode, name};
+use tm_rv::{Code, Instr, Op, Set, decode, encode, name};
 
 // A word, and what it is decoded to: operation, rd, rs1, rs2, and the immediate.
 static DECODED: [(u32, Op, [u8; 3], u32); 75] = [
@@ -131,7 +131,7 @@ fn words_and_instructions_match(rt: HostRuntime) -> Result<(), Fail> {
             rs2,
             imm,
         };
-        let found = decode(word).ok_or("refused")?;
+        let found = decode(word, Set::Mul).ok_or("refused")?;
         assert_eq!(rt; found, wanted, "{word:08x}");
         assert_eq!(rt; encode(&found), word);
         let spelled = format!(in rt.alloc(); "{op:?}")?;
@@ -146,7 +146,7 @@ fn words_and_instructions_match(rt: HostRuntime) -> Result<(), Fail> {
 #[test]
 fn other_words_are_refused(rt: HostRuntime) {
     for &word in &REFUSED {
-        assert_eq!(rt; decode(word), None, "{word:08x}");
+        assert_eq!(rt; decode(word, Set::Base), None, "{word:08x}");
     }
 }
 
@@ -160,7 +160,7 @@ fn a_code_has_the_instruction_of_each_word(rt: HostRuntime) -> Result<(), Fail> 
         (0x0010_0073, Op::Ebreak, [0, 0, 0], 0), // ebreak
         (0xfff0_8093, Op::Addi, [1, 1, 0], 0xffff_ffff), // addi x1, x1, -1
     ];
-    let mut code = Code::new(rt.alloc());
+    let mut code = Code::new(rt.alloc(), Set::Base);
     for &(word, ..) in &wanted {
         code.extend(&[word])?;
     }

@@ -58,7 +58,7 @@ reply_fits image r b d load body =
 
 -- an instruction leaves bodies that the tasks can have
 moment_fits : (image : ImageView) (w : Whole) (r : ℕ) (b : Body) (e : Exec) → IsImage image → BodiesFit image w.bodies →
-    (r < length image.loads → IsBodyOf (load_of image r) b) → (r < length image.loads → IsOrderly (text_of image r) b e) →
+    (r < length image.loads → IsBodyOf (load_of image r) b) → (r < length image.loads → IsOrderly (text_of image r).words b e) →
     BodiesFit image (moment_by (entry_of image r) w r b e).after.bodies
 moment_fits image w r b (Goes next back) i fit body orderly =
     put_fits image w.bodies r next fit (λ below. record { aligned = (orderly below).aligned; words = (orderly below).words ∙ (body below).words })

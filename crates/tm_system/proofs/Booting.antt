@@ -17,13 +17,13 @@ use Rattle.tm_system.proofs.Moments.{same_task}
 -- a task of the image has what it is loaded from
 pub load_there : (image : ImageView) (t : ℕ) → t < length image.loads → slice_get image.loads t ≡ Some (load_of image t)
 load_there image t within =
-    let none : Load = record { entry = 0; text = []; words = [] } in
+    let none : Load = record { entry = 0; text = []; set = image.set; words = [] } in
     slice_get-get_or image.loads t none within ∙ ap Some (sym (unwrap_or-slice_get image.loads t none))
 
 -- and it can be loaded
 pub load_sound : (image : ImageView) (t : ℕ) → IsImage image → t < length image.loads → IsLoad (load_of image t)
 load_sound image t sound within =
-    let none : Load = record { entry = 0; text = []; words = [] } in
+    let none : Load = record { entry = 0; text = []; set = image.set; words = [] } in
     subst IsLoad (sym (unwrap_or-slice_get image.loads t none)) (All-get_or IsLoad image.loads t none within sound.each)
 
 -- a task's body at boot

@@ -3,6 +3,7 @@ use Rattle.std.proofs.Common.{◌≡◌, ◌≢◌, ℕ, zero, suc, ◌+◌, ◌
 use Rattle.std.proofs.lemmas.Bool.{cases_Bool, cases_eq, eq-eqb, ne_eqb, eqb-true}
 use Rattle.std.proofs.lemmas.List.{length-map, set-set}
 use Rattle.std.proofs.lemmas.Option.{same_Some}
+use Rattle.tm_rv.specs.Code.{Text}
 use Rattle.tm_marker.specs.declared.body.Body.{Body}
 use Rattle.tm_marker.specs.declared.entries.DataEntry.{DataEntry}
 use Rattle.tm_marker.specs.declared.entries.OutputEntry.{OutputEntry}
@@ -59,7 +60,7 @@ none_switched : (machine : MachineView) (from : ℕ) → from ≡ machine.kernel
 none_switched machine from same = rw (eq-eqb from machine.kernel.running same) refl
 
 -- an instruction that went on, in its epoch or by starting one
-went_does : (old new : MachineView) (r : ℕ) (text : List ℕ) (before after : TaskView) (checkpoint : Option ℕ) → r ≡ old.kernel.running → r ≢ nobody →
+went_does : (old new : MachineView) (r : ℕ) (text : Text) (before after : TaskView) (checkpoint : Option ℕ) → r ≡ old.kernel.running → r ≢ nobody →
     r < length old.tasks → slice_get old.tasks r ≡ Some before → (w : Went text before after) →
     new ≡ record old { tasks = slice_set old.tasks r after } →
     checkpoint ≡ (if w.back && is_full before.standing then Some r else None) →
@@ -92,19 +93,19 @@ went_does old new r text before after checkpoint runs somebody within there w re
     start_is r back count = rw (eq-eqb r r refl) refl
 
 -- a turn of the machine: the running task by its text of the image
-pub record Turns (image : ImageView) (old : MachineView) (r : ℕ) (text : List ℕ) : Type 0 where
+pub record Turns (image : ImageView) (old : MachineView) (r : ℕ) (text : Text) : Type 0 where
   pub runs : r ≡ old.kernel.running
   pub somebody : r ≢ nobody
   pub within : r < length old.tasks
   pub text_is : text ≡ text_of image r
 
-executes : (image : ImageView) (old : MachineView) (r : ℕ) (text : List ℕ) (before : TaskView) (e : Exec) → Turns image old r text →
+executes : (image : ImageView) (old : MachineView) (r : ℕ) (text : Text) (before : TaskView) (e : Exec) → Turns image old r text →
     slice_get old.tasks r ≡ Some before → exec text before.standing.body ≡ e → exec (text_of image r) (task_in old r).standing.body ≡ e
 executes image old r text before e t there did =
     ap (λ (x : TaskView). exec (text_of image r) x.standing.body) (task_is old r before there) ∙
-    ap (λ (x : List ℕ). exec x before.standing.body) (sym t.text_is) ∙ did
+    ap (λ (x : Text). exec x before.standing.body) (sym t.text_is) ∙ did
 
-pub ran_does : (image : ImageView) (old new : MachineView) (r : ℕ) (text : List ℕ) → Turns image old r text → StepsTask text r old Ran new →
+pub ran_does : (image : ImageView) (old new : MachineView) (r : ℕ) (text : Text) → Turns image old r text → StepsTask text r old Ran new →
     Does old (next_in image old) told_going_on new
 ran_does image old new r text t s =
     let w = s.did.goes in
@@ -114,7 +115,7 @@ ran_does image old new r text t s =
     (sym (next_by image old r _ t.runs (executes image old r text s.before _ t s.there w.executed)))
     (went_does old new r text s.before s.after None t.runs t.somebody t.within s.there w s.rest (rw stays refl))
 
-pub forced_does : (image : ImageView) (old new : MachineView) (r : ℕ) (text : List ℕ) → Turns image old r text → StepsTask text r old Forced new →
+pub forced_does : (image : ImageView) (old new : MachineView) (r : ℕ) (text : Text) → Turns image old r text → StepsTask text r old Forced new →
     Does old (next_in image old) (record told_going_on { checkpoint = Some r }) new
 forced_does image old new r text t s =
     let w = s.did.goes in
@@ -125,7 +126,7 @@ forced_does image old new r text t s =
     (went_does old new r text s.before s.after (Some r) t.runs t.somebody t.within s.there w s.rest (rw starts refl))
 
 -- a call or a fault that the machine did, as the next moment
-pub next_does : (image : ImageView) (old middle new : MachineView) (r : ℕ) (text : List ℕ) (before : TaskView) (e : Exec) (told : Told) →
+pub next_does : (image : ImageView) (old middle new : MachineView) (r : ℕ) (text : Text) (before : TaskView) (e : Exec) (told : Told) →
     Turns image old r text → slice_get old.tasks r ≡ Some before → exec text before.standing.body ≡ e → middle ≡ old →
     Does middle (moment_in middle r e) told new → Does old (next_in image old) told new
 next_does image old middle new r text before e told t there did same does =
@@ -217,7 +218,7 @@ arrival_does old new mask ports tasks kernel entry output checkpoint switch faul
 abbrev with_task : MachineView → ℕ → TaskView → MachineView
 with_task old r t = record old { tasks = slice_set old.tasks r t }
 
-run_does : (n : ℕ) (image : ImageView) (old : MachineView) (r : ℕ) (text : List ℕ) (before after : TaskView) → Turns image old r text →
+run_does : (n : ℕ) (image : ImageView) (old : MachineView) (r : ℕ) (text : Text) (before after : TaskView) → Turns image old r text →
     slice_get old.tasks r ≡ Some before → slice_set old.tasks r before ≡ old.tasks → RunsOn text n before after → DoesQuietly image n old (with_task old r after)
 unfolding RunsOn DoesQuietly
 run_does zero image old r text before after t there put same =
@@ -236,7 +237,7 @@ run_does (suc n) image old r text before after t there put (between, (so_far, di
     let here : Turns image middle r text = record { runs = t.runs; somebody = t.somebody; within = omega (arith, t.within, long); text_is = t.text_is } in
     (middle, (run_does n image old r text before between t there put so_far, ran_does image middle new r text here steps))
 
-pub runs_does : (image : ImageView) (old new : MachineView) (r n : ℕ) (text : List ℕ) → Turns image old r text → RunsTask text r old n new →
+pub runs_does : (image : ImageView) (old new : MachineView) (r n : ℕ) (text : Text) → Turns image old r text → RunsTask text r old n new →
     DoesQuietly image n old new
 runs_does image old new r n text t s =
     let put : slice_set old.tasks r s.before ≡ old.tasks = put_back old.tasks r s.before s.there in

@@ -2,6 +2,7 @@
 use Rattle.std.proofs.Common.{◌≡◌, ◌≢◌, ℕ, ◌<◌, ◌^◌, refl, ap, sym, ◌∙◌, subst, arith, inl, inr, List, length, Option, Some, IfSome, slice_get, slice_set}
 use Rattle.std.proofs.lemmas.Option.{get_or_from_slice_get}
 use Rattle.std.proofs.lemmas.List.{set-get_or}
+use Rattle.tm_rv.specs.Code.{Text}
 use Rattle.tm_task.specs.declared.outcome.Cause.{Cause}
 use Rattle.tm_task.specs.declared.outcome.Stepped.TheVariants.{Call, Fault}
 use Rattle.tm_task.specs.Standing.{TaskView}
@@ -51,14 +52,14 @@ put_stays old new r before after there same rest =
     rest ∙ ap (λ (t : TaskView). record old { tasks = slice_set old.tasks r t }) same ∙
     ap (λ (ts : List TaskView). record old { tasks = ts }) (put_back old.tasks r before there)
 
-pub call_stays : (old new : MachineView) (r service : ℕ) (text : List ℕ) → StepsTask text r old (Call service) new → new ≡ old
+pub call_stays : (old new : MachineView) (r service : ℕ) (text : Text) → StepsTask text r old (Call service) new → new ≡ old
 call_stays old new r service text s = put_stays old new r s.before s.after s.there s.did.same s.rest
 
-pub fault_stays : (old new : MachineView) (r : ℕ) (cause : Cause) (text : List ℕ) → StepsTask text r old (Fault cause) new → new ≡ old
+pub fault_stays : (old new : MachineView) (r : ℕ) (cause : Cause) (text : Text) → StepsTask text r old (Fault cause) new → new ≡ old
 fault_stays old new r cause text s = put_stays old new r s.before s.after s.there s.did.same s.rest
 
 -- the caller can be answered
-pub caller_ready : (old new : MachineView) (r service : ℕ) (text : List ℕ) → StepsTask text r old (Call service) new →
+pub caller_ready : (old new : MachineView) (r service : ℕ) (text : Text) → StepsTask text r old (Call service) new →
     IfSome (slice_get old.tasks r) (λ t. t.standing.epoch < 2 ^ 53) → IfSome (slice_get new.tasks r) CanAnswer
 caller_ready old new r service text s small =
     let low : s.before.standing.epoch < 2 ^ 53 =

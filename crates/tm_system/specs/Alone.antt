@@ -1,6 +1,7 @@
 -- What a task does by itself: its instructions one after another, its calls answered by the data entries
 -- that it has.
 use Rattle.std.specs.Prelude.{ℕ, zero, suc, ◌+◌, ◌*◌, ◌^◌, Bool, true, false, List, slice_get, Option, Some, None, Result, Ok, Err, ok_or}
+use Rattle.tm_rv.specs.Code.{Text}
 use Rattle.tm_marker.specs.declared.marker.Marker.{Marker}
 use Rattle.tm_marker.specs.declared.marker.TheConstants.{EPOCH_LENGTH}
 use Rattle.tm_marker.specs.Order.{marker_lt}
@@ -16,7 +17,7 @@ use Rattle.tm_system.specs.declared.diverged.Why.TheVariants.{Passed, Faulted, N
 pub record Alone : Type 0 where
   pub task : ℕ
   pub entry : ℕ
-  pub text : List ℕ
+  pub text : Text
   pub log : List DataEntry
   pub first : ℕ
   pub total : ℕ

@@ -1,5 +1,6 @@
 -- Runs of small images, held to what they must leave.
 use Rattle.std.specs.Prelude.{◌≡◌, ℕ, Bool, true, false, List, [], ◌∷◌, replicate, map}
+use Rattle.tm_rv.specs.declared.instr.Set.TheVariants as set
 use Rattle.tm_marker.specs.declared.marker.Marker.{Marker}
 use Rattle.tm_marker.specs.declared.entries.Switch.{Switch}
 use Rattle.tm_marker.specs.declared.entries.Slice.{Slice}
@@ -16,9 +17,10 @@ use Rattle.tm_system.specs.Controls.{controls}
 -- an image of basic tasks with these texts, each entered at 0, with one data word; the lines' actions
 abbrev pub image_of_texts : List TaskSpec → List (List ℕ) → List Action → ImageView
 image_of_texts tasks texts lines = record {
+  set = set.Base;
   digest = replicate 32 0;
   spec = record { tasks = tasks; users = []; alarms = []; boxes = []; lines = lines };
-  loads = map (λ text. record { entry = 0; text = text; words = 0 ∷ [] }) texts;
+  loads = map (λ text. record { entry = 0; text = text; set = set.Base; words = 0 ∷ [] }) texts;
   caps = record { control = 256; logs = 256; outputs = 256; checks = 4 };
 }
 

@@ -1,5 +1,6 @@
 -- What the parts of a moment make of a machine.
 use Rattle.std.specs.Prelude.{◌≡◌, ℕ, ◌^◌, ◌<◌, ◌⊎◌, ◌||◌, not, ◌==◌, if◌then◌else◌, List, length, map, slice_get, slice_set, Option, Some, None, is_some}
+use Rattle.tm_rv.specs.Code.{Text}
 use Rattle.tm_marker.specs.declared.marker.Marker.{Marker}
 use Rattle.tm_marker.specs.declared.entries.DataEntry.{DataEntry}
 use Rattle.tm_marker.specs.declared.entries.Switch.{Switch}
@@ -20,7 +21,7 @@ pub record AreBooted (image : ImageView) (tasks : List TaskView) : Type 0 where
       slice_get tasks task ≡ Some (booted_task (entry_of image task) (words_of image task))
 
 -- one task made a step, and nothing else changed
-pub record StepsTask (text : List ℕ) (task : ℕ) (old : MachineView) (answer : Stepped) (new : MachineView) : Type 0 where
+pub record StepsTask (text : Text) (task : ℕ) (old : MachineView) (answer : Stepped) (new : MachineView) : Type 0 where
   pub before : TaskView
   pub after : TaskView
   pub there : slice_get old.tasks task ≡ Some before
@@ -28,7 +29,7 @@ pub record StepsTask (text : List ℕ) (task : ℕ) (old : MachineView) (answer 
   pub rest : new ≡ record old { tasks = slice_set old.tasks task after }
 
 -- one task ran on by so many instructions, and nothing else changed
-pub record RunsTask (text : List ℕ) (task : ℕ) (old : MachineView) (n : ℕ) (new : MachineView) : Type 0 where
+pub record RunsTask (text : Text) (task : ℕ) (old : MachineView) (n : ℕ) (new : MachineView) : Type 0 where
   pub before : TaskView
   pub after : TaskView
   pub there : slice_get old.tasks task ≡ Some before

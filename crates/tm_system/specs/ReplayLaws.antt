@@ -10,7 +10,7 @@ use Rattle.tm_system.specs.Alone.{Alone, Comes, Sticks, next_or_why, walk_to}
 
 -- a task with a text of at most 16,384 words is at the place
 pub record IsWalker (a : Alone) (p : Place) : Type 0 where
-  pub few : length a.text ≤ 16384
+  pub few : length a.text.words ≤ 16384
   pub task : IsTask (standing_task a.entry p.standing)
 
 -- it has come to the marker, or is past it

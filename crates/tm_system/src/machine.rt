@@ -199,8 +199,8 @@ impl Machine {
         requires runs { IsRunning self.old.kernel task }
         requires somebody { task ≢ nobody }
         requires there { task < length self.old.tasks }
-        requires some { 0 < length code.now }
-        requires few { length code.now ≤ 16384 }
+        requires some { 0 < length code.now.words }
+        requires few { length code.now.words ≤ 16384 }
         requires epoch { IfSome (slice_get self.old.tasks task) (λ t. t.standing.epoch < 2 ^ 53) }
         ensures done { (image : ImageView) → code.now ≡ text_of image task → Does self.old (next_in image self.old) result self.new }
         ensures spec { self.new.kernel.spec ≡ self.old.kernel.spec }
@@ -221,8 +221,8 @@ impl Machine {
     #[inline]
     fn step(&mut self, task: u8, code: &Code) -> Stepped
         requires there { task < length self.old.tasks }
-        requires some { 0 < length code.now }
-        requires few { length code.now ≤ 16384 }
+        requires some { 0 < length code.now.words }
+        requires few { length code.now.words ≤ 16384 }
         requires epoch { IfSome (slice_get self.old.tasks task) (λ t. t.standing.epoch < 2 ^ 53) }
         ensures stepped { StepsTask code.now task self.old result self.new }
         ensures sound { IsMachine self.new }
@@ -234,8 +234,8 @@ impl Machine {
     #[inline]
     fn run_on(&mut self, task: u8, code: &Code, most: u32) -> u32
         requires there { task < length self.old.tasks }
-        requires some { 0 < length code.now }
-        requires few { length code.now ≤ 16384 }
+        requires some { 0 < length code.now.words }
+        requires few { length code.now.words ≤ 16384 }
         requires epoch { IfSome (slice_get self.old.tasks task) (λ t. t.standing.epoch < 2 ^ 53) }
         ensures within { result ≤ most }
         ensures ran { RunsTask code.now task self.old result self.new }

@@ -4,10 +4,11 @@ use Rattle.std.specs.Prelude.{◌==◌, not, nat_lt, if◌then◌else◌, slice_
 use Rattle.std.proofs.lemmas.List.{length-set}
 use Rattle.std.proofs.lemmas.Bool.Decides.{nat_tests}
 use Rattle.tm_marker.specs.declared.body.Body.{Body}
+use Rattle.tm_rv.specs.Code.{Text}
 use Rattle.tm_rv.specs.Instr.{instr_of}
 use Rattle.tm_rv.specs.declared.instr.Instr.{Instr}
 use Rattle.tm_rv.specs.declared.instr.Op.{Op}
-use Rattle.tm_rv.specs.declared.instr.Op.TheVariants.{Lui, Auipc, Jal, Jalr, Beq, Bne, Blt, Bge, Bltu, Bgeu, Lb, Lh, Lw, Lbu, Lhu, Sb, Sh, Sw, Addi, Slti, Sltiu, Xori, Ori, Andi, Slli, Srli, Srai, Add, Sub, Sll, Slt, Sltu, Xor, Srl, Sra, Or, And, Fence, Ecall, Ebreak}
+use Rattle.tm_rv.specs.declared.instr.Op.TheVariants.{Lui, Auipc, Jal, Jalr, Beq, Bne, Blt, Bge, Bltu, Bgeu, Lb, Lh, Lw, Lbu, Lhu, Sb, Sh, Sw, Addi, Slti, Sltiu, Xori, Ori, Andi, Slli, Srli, Srai, Add, Sub, Sll, Slt, Sltu, Xor, Srl, Sra, Or, And, Fence, Ecall, Ebreak, Mul, Mulh, Mulhsu, Mulhu, Div, Divu, Rem, Remu}
 use Rattle.tm_task.specs.Memory.{in_text}
 use Rattle.tm_task.specs.declared.outcome.Cause.{Cause}
 use Rattle.tm_task.specs.Exec.{Exec, Calls, Goes, with_reg, advanced, written, jumped, branched, fetched, loaded_by, loaded, with_bytes, stored, is_unaligned, in_memory, meaning, exec_word, exec}
@@ -121,23 +122,31 @@ meaning_follows And text b rd x y imm inside = written_follows text b rd _ insid
 meaning_follows Fence text b rd x y imm inside = advanced_follows text b b inside refl refl refl
 meaning_follows Ecall text b rd x y imm inside = inside.inside
 meaning_follows Ebreak text b rd x y imm inside = tt
+meaning_follows Mul text b rd x y imm inside = written_follows text b rd _ inside
+meaning_follows Mulh text b rd x y imm inside = written_follows text b rd _ inside
+meaning_follows Mulhsu text b rd x y imm inside = written_follows text b rd _ inside
+meaning_follows Mulhu text b rd x y imm inside = written_follows text b rd _ inside
+meaning_follows Div text b rd x y imm inside = written_follows text b rd _ inside
+meaning_follows Divu text b rd x y imm inside = written_follows text b rd _ inside
+meaning_follows Rem text b rd x y imm inside = written_follows text b rd _ inside
+meaning_follows Remu text b rd x y imm inside = written_follows text b rd _ inside
 
 exec_word_follows : (text : List ℕ) (b : Body) (i : Option Instr) → IsInside text b → IsOrderly text b (exec_word text b i)
 exec_word_follows text b None inside = tt
 exec_word_follows text b (Some i) inside = meaning_follows i.op text b i.rd _ _ i.imm inside
 
 -- an instruction of a text of at most 16,384 words is orderly
-pub exec_follows : (text : List ℕ) (b : Body) → length text ≤ 16384 → b.pc % 4 ≡ 0 → IsOrderly text b (exec text b)
+pub exec_follows : (text : Text) (b : Body) → length text.words ≤ 16384 → b.pc % 4 ≡ 0 → IsOrderly text.words b (exec text b)
 unfolding exec
 exec_follows text b few aligned =
-    chosen text b (nat_lt b.pc (4 * length text)) _ _
-    (λ below. exec_word_follows text b (instr_of (slice_index text (b.pc / 4))) (record { aligned = aligned; inside = grind (arith, nat_tests); low = grind (arith, nat_tests) }))
+    chosen text.words b (nat_lt b.pc (4 * length text.words)) _ _
+    (λ below. exec_word_follows text.words b (instr_of (slice_index text.words (b.pc / 4)) text.set) (record { aligned = aligned; inside = grind (arith, nat_tests); low = grind (arith, nat_tests) }))
     (λ _. tt)
 
 -- where it goes on, the next body follows
-pub goes_on : (text : List ℕ) (b next : Body) (back : Bool) → exec text b ≡ Goes next back → length text ≤ 16384 → b.pc % 4 ≡ 0 → Follows b next back
-goes_on text b next back e few aligned = subst (IsOrderly text b) e (exec_follows text b few aligned)
+pub goes_on : (text : Text) (b next : Body) (back : Bool) → exec text b ≡ Goes next back → length text.words ≤ 16384 → b.pc % 4 ≡ 0 → Follows b next back
+goes_on text b next back e few aligned = subst (IsOrderly text.words b) e (exec_follows text b few aligned)
 
 -- where it calls, the body is inside the text
-pub calls_inside : (text : List ℕ) (b : Body) (service : ℕ) → exec text b ≡ Calls service → length text ≤ 16384 → b.pc % 4 ≡ 0 → b.pc < 4 * length text
-calls_inside text b service e few aligned = subst (IsOrderly text b) e (exec_follows text b few aligned)
+pub calls_inside : (text : Text) (b : Body) (service : ℕ) → exec text b ≡ Calls service → length text.words ≤ 16384 → b.pc % 4 ≡ 0 → b.pc < 4 * length text.words
+calls_inside text b service e few aligned = subst (IsOrderly text.words b) e (exec_follows text b few aligned)

@@ -7,6 +7,7 @@ use Rattle.tm_marker.specs.Order.{IsBefore, marker_lt}
 use Rattle.tm_marker.specs.declared.body.Body.{Body}
 use Rattle.tm_marker.specs.declared.entries.DataEntry.{DataEntry}
 use Rattle.tm_marker.specs.declared.marker.TheConstants.{EPOCH_LENGTH}
+use Rattle.tm_rv.specs.Code.{Text}
 use Rattle.tm_task.specs.Exec.{Exec, Faults, Calls, Goes, exec}
 use Rattle.tm_task.specs.Follows.{Follows, IsOrderly}
 use Rattle.tm_task.specs.Standing.{Standing, IsTask, marker_of, went, answered, is_full, is_end, begins_epoch, reply, restarted, resumed, next_epoch}
@@ -108,7 +109,7 @@ call_rises entry task p q service None low stands is = cc
 call_rises entry task p q service (Some d) low stands is =
     subst (λ (r : Place). Rises entry p.standing r.standing) (through (d.service == service) _ q is) (answered_rises entry p.standing d stands low)
 
-place_rises : (entry task : ℕ) (text : List ℕ) (log : List DataEntry) (p q : Place) (e : Exec) → length text ≤ 16384 → IsOrderly text p.standing.body e →
+place_rises : (entry task : ℕ) (text : Text) (log : List DataEntry) (p q : Place) (e : Exec) → length text.words ≤ 16384 → IsOrderly text.words p.standing.body e →
     IsTask (standing_task entry p.standing) → place_by entry task log p e ≡ Some q → Rises entry p.standing q.standing
 place_rises entry task text log p q (Faults cause) few orderly stands is = cc
 place_rises entry task text log p q (Calls service) few orderly stands is = call_rises entry task p q service (slice_get log p.used) (omega arith) stands is
@@ -116,16 +117,16 @@ place_rises entry task text log p q (Goes next back) few orderly stands is =
     let same : record p { standing = went p.standing next back } ≡ q = cc in
     subst (λ (r : Place). Rises entry p.standing r.standing) same (went_rises entry p.standing next back stands orderly)
 
-next_rises : (entry task : ℕ) (text : List ℕ) (log : List DataEntry) (p q : Place) → length text ≤ 16384 →
+next_rises : (entry task : ℕ) (text : Text) (log : List DataEntry) (p q : Place) → length text.words ≤ 16384 →
     IsTask (standing_task entry p.standing) → next_place entry task text log p ≡ Some q → Rises entry p.standing q.standing
 unfolding next_place
 next_rises entry task text log p q few stands is =
     place_rises entry task text log p q (exec text p.standing.body) few (exec_follows text p.standing.body few stands.pc.0) stands is
 
-pub places_rise_lem : (entry task : ℕ) (text : List ℕ) (log : List DataEntry) (p q : Place) → length text ≤ 16384 →
+pub places_rise_lem : (entry task : ℕ) (text : Text) (log : List DataEntry) (p q : Place) → length text.words ≤ 16384 →
     IsTask (standing_task entry p.standing) → next_place entry task text log p ≡ Some q → IsBefore (marker_of p.standing) (marker_of q.standing)
 places_rise_lem entry task text log p q few stands is = (next_rises entry task text log p q few stands is).rises
 
-pub places_stay_lem : (entry task : ℕ) (text : List ℕ) (log : List DataEntry) (p q : Place) → length text ≤ 16384 →
+pub places_stay_lem : (entry task : ℕ) (text : Text) (log : List DataEntry) (p q : Place) → length text.words ≤ 16384 →
     IsTask (standing_task entry p.standing) → next_place entry task text log p ≡ Some q → IsTask (standing_task entry q.standing)
 places_stay_lem entry task text log p q few stands is = (next_rises entry task text log p q few stands is).stays

@@ -1,12 +1,14 @@
 -- What one instruction does to a body (RISC-V Unprivileged ISA, 20191213, chapter 2, "RV32I Base
--- Integer Instruction Set, Version 2.1").
-use Rattle.std.specs.Prelude.{ℕ, ◌+◌, ◌-◌, ◌*◌, ◌/◌, ◌%◌, ◌^◌, Bool, false, not, ◌||◌, ◌==◌, int_lt, nat_lt, nat_le, if◌then◌else◌, List, length, slice_index, slice_set, bit_and, bit_or, bit_xor, Option, Some, None, Result, Ok, Err}
+-- Integer Instruction Set, Version 2.1", and chapter 7, "M" Standard Extension for Integer Multiplication
+-- and Division, Version 2.0).
+use Rattle.std.specs.Prelude.{ℕ, ◌+◌, ◌-◌, ◌*◌, ◌/◌, ◌%◌, ◌^◌, Bool, false, not, ◌||◌, ◌==◌, int_lt, int_div, int_rem, ℤ, pos, ◌*ℤ◌, nat_lt, nat_le, if◌then◌else◌, List, length, slice_index, slice_set, bit_and, bit_or, bit_xor, Option, Some, None, Result, Ok, Err}
 use Rattle.std.specs.Int.{w32, cast_signed, cast_unsigned, int_shr}
 use Rattle.tm_marker.specs.declared.body.Body.{Body}
+use Rattle.tm_rv.specs.Code.{Text}
 use Rattle.tm_rv.specs.Instr.{instr_of, sign_extend}
 use Rattle.tm_rv.specs.declared.instr.Instr.{Instr}
 use Rattle.tm_rv.specs.declared.instr.Op.{Op}
-use Rattle.tm_rv.specs.declared.instr.Op.TheVariants.{Lui, Auipc, Jal, Jalr, Beq, Bne, Blt, Bge, Bltu, Bgeu, Lb, Lh, Lw, Lbu, Lhu, Sb, Sh, Sw, Addi, Slti, Sltiu, Xori, Ori, Andi, Slli, Srli, Srai, Add, Sub, Sll, Slt, Sltu, Xor, Srl, Sra, Or, And, Fence, Ecall, Ebreak}
+use Rattle.tm_rv.specs.declared.instr.Op.TheVariants.{Lui, Auipc, Jal, Jalr, Beq, Bne, Blt, Bge, Bltu, Bgeu, Lb, Lh, Lw, Lbu, Lhu, Sb, Sh, Sw, Addi, Slti, Sltiu, Xori, Ori, Andi, Slli, Srli, Srai, Add, Sub, Sll, Slt, Sltu, Xor, Srl, Sra, Or, And, Fence, Ecall, Ebreak, Mul, Mulh, Mulhsu, Mulhu, Div, Divu, Rem, Remu}
 use Rattle.tm_task.specs.Memory.{data_start, in_text, in_data, word_at, part_of, spliced}
 use Rattle.tm_task.specs.declared.outcome.Cause.{Cause}
 use Rattle.tm_task.specs.declared.outcome.Cause.TheVariants.{Fetch, Illegal, Target, Unaligned, Range, TextWrite, Break}
@@ -103,6 +105,26 @@ shifted_signed x places = cast_unsigned w32 (int_shr (cast_signed w32 x) places)
 abbrev pub without_bit_0 : ℕ → ℕ
 without_bit_0 n = n - n % 2
 
+-- the high 32 of the 64 bits of a product
+abbrev pub high_word : ℤ → ℕ
+high_word product = cast_unsigned w32 (int_shr product 32)
+
+-- the quotient of two signed words, rounded towards 0; all bits are 1 where the divisor is 0
+abbrev pub quotient : ℕ → ℕ → ℕ
+quotient x y = if y == 0 then 2 ^ 32 - 1 else cast_unsigned w32 (int_div (cast_signed w32 x) (cast_signed w32 y))
+
+-- the quotient of two words; all bits are 1 where the divisor is 0
+abbrev pub quotient_unsigned : ℕ → ℕ → ℕ
+quotient_unsigned x y = if y == 0 then 2 ^ 32 - 1 else x / y
+
+-- the remainder of two signed words, with the sign of the dividend, which it is where the divisor is 0
+abbrev pub remainder : ℕ → ℕ → ℕ
+remainder x y = if y == 0 then x else cast_unsigned w32 (int_rem (cast_signed w32 x) (cast_signed w32 y))
+
+-- the remainder of two words, which is the dividend where the divisor is 0
+abbrev pub remainder_unsigned : ℕ → ℕ → ℕ
+remainder_unsigned x y = if y == 0 then x else x % y
+
 -- the service that a call asks for: a7, and 255 for all above 254
 abbrev pub service_of : Body → ℕ
 service_of b = if nat_lt 254 (reg b 17) then 255 else reg b 17
@@ -149,6 +171,14 @@ meaning And text b rd x y imm = written b rd (bit_and x y)
 meaning Fence text b rd x y imm = Goes (advanced b) false
 meaning Ecall text b rd x y imm = Calls (service_of b)
 meaning Ebreak text b rd x y imm = Faults Break
+meaning Mul text b rd x y imm = written b rd (x * y)
+meaning Mulh text b rd x y imm = written b rd (high_word (cast_signed w32 x *ℤ cast_signed w32 y))
+meaning Mulhsu text b rd x y imm = written b rd (high_word (cast_signed w32 x *ℤ pos y))
+meaning Mulhu text b rd x y imm = written b rd (x * y / 2 ^ 32)
+meaning Div text b rd x y imm = written b rd (quotient x y)
+meaning Divu text b rd x y imm = written b rd (quotient_unsigned x y)
+meaning Rem text b rd x y imm = written b rd (remainder x y)
+meaning Remu text b rd x y imm = written b rd (remainder_unsigned x y)
 
 -- what an instruction does
 abbrev pub exec_instr : List ℕ → Body → Instr → Exec
@@ -160,8 +190,8 @@ exec_word text b None = Faults Illegal
 exec_word text b (Some i) = exec_instr text b i
 
 -- what the instruction at a body's pc does; a pc past the text faults
-unfoldable pub exec : List ℕ → Body → Exec
+unfoldable pub exec : Text → Body → Exec
 exec text b =
-    if nat_lt b.pc (4 * length text)
-    then exec_word text b (instr_of (slice_index text (b.pc / 4)))
+    if nat_lt b.pc (4 * length text.words)
+    then exec_word text.words b (instr_of (slice_index text.words (b.pc / 4)) text.set)
     else Faults Fetch

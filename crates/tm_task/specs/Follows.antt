@@ -1,6 +1,7 @@
 -- What every instruction that goes on makes of a body.
 use Rattle.std.specs.Prelude.{◌≡◌, ℕ, ◌*◌, ◌%◌, ◌^◌, ◌<◌, ◌≤◌, Bool, false, List, length}
 use Rattle.tm_marker.specs.declared.body.Body.{Body}
+use Rattle.tm_rv.specs.Code.{Text}
 use Rattle.tm_task.specs.Exec.{Exec, Faults, Calls, Goes, exec}
 
 -- the next body stands at an instruction, further on where no backward transfer was taken, and has as
@@ -21,4 +22,4 @@ IsOrderly text b (Goes next back) = Follows b next back
 
 -- an instruction of a text of at most 16,384 words is orderly
 abbrev pub InstructionsAreOrderly : Type 0
-InstructionsAreOrderly = (text : List ℕ) (b : Body) → length text ≤ 16384 → b.pc % 4 ≡ 0 → IsOrderly text b (exec text b)
+InstructionsAreOrderly = (text : Text) (b : Body) → length text.words ≤ 16384 → b.pc % 4 ≡ 0 → IsOrderly text.words b (exec text b)

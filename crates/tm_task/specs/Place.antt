@@ -3,6 +3,7 @@ use Rattle.std.specs.Prelude.{ℕ, zero, suc, ◌+◌, ◌&&◌, ◌==◌, nat_l
 use Rattle.tm_marker.specs.declared.body.Body.{Body}
 use Rattle.tm_marker.specs.declared.entries.DataEntry.{DataEntry}
 use Rattle.tm_marker.specs.declared.entries.OutputEntry.{OutputEntry}
+use Rattle.tm_rv.specs.Code.{Text}
 use Rattle.tm_task.specs.Exec.{Exec, Faults, Calls, Goes, exec, reg}
 use Rattle.tm_task.specs.Standing.{Standing, went, answered}
 
@@ -42,11 +43,11 @@ place_by entry task log p (Calls service) = after_call entry task p service (sli
 place_by entry task log p (Goes next back) = Some (record p { standing = went p.standing next back })
 
 -- the place after one more instruction of the task
-unfoldable pub next_place : ℕ → ℕ → List ℕ → List DataEntry → Place → Option Place
+unfoldable pub next_place : ℕ → ℕ → Text → List DataEntry → Place → Option Place
 next_place entry task text log p = place_by entry task log p (exec text p.standing.body)
 
 -- the place after n instructions
-unfoldable pub place_after : ℕ → ℕ → List ℕ → List DataEntry → Place → ℕ → Option Place
+unfoldable pub place_after : ℕ → ℕ → Text → List DataEntry → Place → ℕ → Option Place
 place_after entry task text log p zero = Some p
 place_after entry task text log p (suc n) =
     option_and_then (λ q. next_place entry task text log q) (place_after entry task text log p n)

@@ -1,5 +1,5 @@
-//! One task of the machine: a program counter, registers and data words that RV32I instructions
-//! change, and calls that an answer resumes.
+//! One task of the machine: a program counter, registers and data words that RV32I and RV32M
+//! instructions change, and calls that an answer resumes.
 //!
 //! [`Task`] is a task. [`Task::step`] executes one instruction of its text and tells by [`Stepped`]
 //! what it did; after a call, [`Task::answer`] gives the task what the service answered. A
@@ -7,9 +7,11 @@
 #![tactic(auto)]
 
 mod answer;
+mod division;
 mod execute;
 mod laws;
 mod memory;
+mod multiplication;
 mod outcome;
 mod perform;
 mod registers;

@@ -51,7 +51,7 @@ fn turn(
     regs: &mut Registers,
     words: &mut [u32],
 ) -> Turned
-    requires few { length code.now ≤ 16384 }
+    requires few { length code.now.words ≤ 16384 }
     requires aligned { pc.old % 4 ≡ 0 }
     requires small { pc.old < 2 ^ 32 }
     requires room { count.old + 1 < EPOCH_LENGTH }
@@ -91,7 +91,7 @@ fn turns(
     words: &mut [u32],
     most: u32,
 ) -> u32
-    requires few { length code.now ≤ 16384 }
+    requires few { length code.now.words ≤ 16384 }
     requires aligned { pc.old % 4 ≡ 0 }
     requires small { pc.old < 2 ^ 32 }
     requires room { count.old + 1 < EPOCH_LENGTH }
@@ -121,7 +121,7 @@ fn turns(
 /// Executes up to `most` instructions. What each of them reads, the words of the text, its
 /// instructions and the data words, is taken out once before.
 pub(crate) fn run(items: Items<u32>, start: Start<'_>) -> (Items<u32>, End)
-    requires few { length start.code.now ≤ 16384 }
+    requires few { length start.code.now.words ≤ 16384 }
     requires aligned { start.pc % 4 ≡ 0 }
     requires small { start.pc < 2 ^ 32 }
     requires room { start.count + 1 < EPOCH_LENGTH }

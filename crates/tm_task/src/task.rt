@@ -66,8 +66,8 @@ impl Task {
     /// the task is as before. The call takes no memory.
     #[tactic(auto, using(crate::proofs::Following::goes_on, crate::proofs::Following::calls_inside))]
     pub fn step(&mut self, code: &Code) -> Stepped
-        requires some { 0 < length code.now }
-        requires few { length code.now ≤ 16384 }
+        requires some { 0 < length code.now.words }
+        requires few { length code.now.words ≤ 16384 }
         requires epoch { self.old.standing.epoch < 2 ^ 53 }
         ensures did { Did code.now self.old result self.new }
         ensures raised { Raises result self.old.standing self.new.standing }
@@ -106,8 +106,8 @@ impl Task {
     /// many: it stops before one that calls or faults, and where the next backward transfer would
     /// begin an epoch, so that [`Task::step`] does those. The call takes no memory.
     pub fn advance(&mut self, code: &Code, most: u32) -> u32
-        requires some { 0 < length code.now }
-        requires few { length code.now ≤ 16384 }
+        requires some { 0 < length code.now.words }
+        requires few { length code.now.words ≤ 16384 }
         requires epoch { self.old.standing.epoch < 2 ^ 53 }
         ensures within { result ≤ most }
         ensures ran { RunsOn code.now result self.old self.new }

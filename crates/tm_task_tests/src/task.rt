@@ -3,22 +3,23 @@
 ghost use Rattle.std.specs.Prelude.{◌<◌, ◌≤◌, length, IfOk};
 
 mod cases;
+mod multiply;
 
 use cases::{ARITHMETIC, Case, LOADS, OTHERS, STORES, TEXT_END, TRANSFERS, WORDS, Want};
 use std::alloc::Global;
 use std::process::Abort;
 use std::test::Fail;
 use tm_marker::{DataEntry, Marker};
-use tm_rv::Code;
+use tm_rv::{Code, Set};
 use tm_task::{Cause, Stepped, Task};
 
 /// The text of these words.
 fn code_of(alloc: Global, words: &[u32]) -> Result<Code, Fail>
     requires some { 0 < length words.now }
     requires few { length words.now ≤ 16384 }
-    ensures { IfOk result (λ code. (0 < length code) × (length code ≤ 16384)) }
+    ensures { IfOk result (λ code. (0 < length code.words) × (length code.words ≤ 16384)) }
 {
-    let mut code = Code::new(alloc);
+    let mut code = Code::new(alloc, Set::Mul);
     code.extend(words)?;
     Ok(code)
 }

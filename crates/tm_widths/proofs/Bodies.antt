@@ -4,10 +4,11 @@ use Rattle.std.proofs.lemmas.Bool.Decides.{nat_tests}
 use Rattle.std.proofs.lemmas.List.Elements.{All-nil, All-cons, All-set, All-replicate}
 use Rattle.tm_marker.specs.declared.body.Body.{Body}
 use Rattle.tm_marker.specs.declared.entries.DataEntry.{DataEntry}
+use Rattle.tm_rv.specs.Code.{Text}
 use Rattle.tm_rv.specs.Instr.{instr_of, sign_extend}
 use Rattle.tm_rv.specs.declared.instr.Instr.{Instr}
 use Rattle.tm_rv.specs.declared.instr.Op.{Op}
-use Rattle.tm_rv.specs.declared.instr.Op.TheVariants.{Lui, Auipc, Jal, Jalr, Beq, Bne, Blt, Bge, Bltu, Bgeu, Lb, Lh, Lw, Lbu, Lhu, Sb, Sh, Sw, Addi, Slti, Sltiu, Xori, Ori, Andi, Slli, Srli, Srai, Add, Sub, Sll, Slt, Sltu, Xor, Srl, Sra, Or, And, Fence, Ecall, Ebreak}
+use Rattle.tm_rv.specs.declared.instr.Op.TheVariants.{Lui, Auipc, Jal, Jalr, Beq, Bne, Blt, Bge, Bltu, Bgeu, Lb, Lh, Lw, Lbu, Lhu, Sb, Sh, Sw, Addi, Slti, Sltiu, Xori, Ori, Andi, Slli, Srli, Srai, Add, Sub, Sll, Slt, Sltu, Xor, Srl, Sra, Or, And, Fence, Ecall, Ebreak, Mul, Mulh, Mulhsu, Mulhu, Div, Divu, Rem, Remu}
 use Rattle.tm_task.specs.declared.outcome.Cause.{Cause}
 use Rattle.tm_task.specs.declared.outcome.Cause.TheVariants.{Unaligned, Range, TextWrite}
 use Rattle.tm_task.specs.Memory.{IsSize, spliced, data_start, in_text}
@@ -178,19 +179,27 @@ meaning_fits And text b rd x y imm f = written_fits b rd _ f
 meaning_fits Fence text b rd x y imm f = advanced_fits b f
 meaning_fits Ecall text b rd x y imm f = tt
 meaning_fits Ebreak text b rd x y imm f = tt
+meaning_fits Mul text b rd x y imm f = written_fits b rd _ f
+meaning_fits Mulh text b rd x y imm f = written_fits b rd _ f
+meaning_fits Mulhsu text b rd x y imm f = written_fits b rd _ f
+meaning_fits Mulhu text b rd x y imm f = written_fits b rd _ f
+meaning_fits Div text b rd x y imm f = written_fits b rd _ f
+meaning_fits Divu text b rd x y imm f = written_fits b rd _ f
+meaning_fits Rem text b rd x y imm f = written_fits b rd _ f
+meaning_fits Remu text b rd x y imm f = written_fits b rd _ f
 
 word_fits : (text : List ℕ) (b : Body) (i : Option Instr) → FitsBody b → GoesFit (exec_word text b i)
 word_fits text b None f = tt
 word_fits text b (Some i) f = meaning_fits i.op text b i.rd _ _ i.imm f
 
-all_fit : (text : List ℕ) (b : Body) → FitsBody b → GoesFit (exec text b)
+all_fit : (text : Text) (b : Body) → FitsBody b → GoesFit (exec text b)
 unfolding exec
 all_fit text b f =
-    if_by GoesFit (nat_lt b.pc (4 * length text)) (exec_word text b (instr_of (slice_index text (b.pc / 4)))) _
-    (word_fits text b (instr_of (slice_index text (b.pc / 4))) f) tt
+    if_by GoesFit (nat_lt b.pc (4 * length text.words)) (exec_word text.words b (instr_of (slice_index text.words (b.pc / 4)) text.set)) _
+    (word_fits text.words b (instr_of (slice_index text.words (b.pc / 4)) text.set) f) tt
 
 -- an instruction goes on to a body of such words
-pub exec_fits : (text : List ℕ) (b next : Body) (back : Bool) → FitsBody b → exec text b ≡ Goes next back → FitsBody next
+pub exec_fits : (text : Text) (b next : Body) (back : Bool) → FitsBody b → exec text b ≡ Goes next back → FitsBody next
 exec_fits text b next back f is = subst GoesFit is (all_fit text b f)
 
 -- the body at boot, and after an answer

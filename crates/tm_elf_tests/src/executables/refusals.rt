@@ -7,9 +7,10 @@ use std::alloc::Global;
 use std::process::Abort;
 use std::test::Fail;
 use tm_elf::{ElfFault, Why, read_elf};
+use tm_rv::Set;
 
 fn assert_refused(rt: &impl Abort, alloc: Global, bytes: &[u8], wanted: ElfFault) {
-    match read_elf(alloc, bytes, 1) {
+    match read_elf(alloc, bytes, 1, Set::Base) {
         Ok(_) => panic!(rt; "{wanted}"),
         Err(fault) => assert_eq!(rt; fault, wanted),
     }
@@ -42,7 +43,7 @@ fn assert_entry(
     right: bool,
 ) -> Result<(), Fail> {
     let bytes = file(alloc, value, headers, &[0; 8])?;
-    match read_elf(alloc, bytes.as_slice(), 1) {
+    match read_elf(alloc, bytes.as_slice(), 1, Set::Base) {
         Ok(_) => assert!(rt; right),
         Err(fault) => assert!(rt; !right && fault == ElfFault::Entry { value }),
     }

@@ -1,11 +1,11 @@
 //! `load IMAGE T ELF NEW`
 
 ghost use Rattle.std.specs.Prelude.{◌≡◌, [], ◌∷◌, map, IfOk};
-ghost use Rattle.tm_prog.specs.LoadCommand.{load_made, words_said};
+ghost use Rattle.tm_prog.specs.LoadCommand.{load_made, keeps_said};
 ghost use Rattle.tm_prog.specs.Reads.{Reads, Says};
 
 use crate::Status;
-use crate::files::{LeastWords, read_file};
+use crate::files::{Keeps, read_file};
 use crate::made::Made;
 use std::alloc::Global;
 use tm_image::{Image, Loaded};
@@ -30,11 +30,11 @@ pub(crate) fn load<'a, F: Shelf>(
         Ok(image) => image,
         Err(status) => return Err(status),
     };
-    let least = match least_words(&image, task) {
-        Ok(least) => least,
+    let keeps = match kept_of(&image, task) {
+        Ok(keeps) => keeps,
         Err(status) => return Err(status),
     };
-    let loaded: Loaded = match read_file(alloc, shelf, 2, executable, &least) {
+    let loaded: Loaded = match read_file(alloc, shelf, 2, executable, &keeps) {
         Ok(loaded) => loaded,
         Err(status) => return Err(status),
     };
@@ -46,12 +46,12 @@ pub(crate) fn load<'a, F: Shelf>(
     }
 }
 
-/// As many data words as the task has now.
-fn least_words(image: &Image, task: u8) -> Result<LeastWords, Status>
-    ensures { Says (words_said image.now task) result }
+/// What the task keeps: as many data words as it has now, and its set of instructions.
+fn kept_of(image: &Image, task: u8) -> Result<Keeps, Status>
+    ensures { Says (keeps_said image.now task) result }
 {
     if usize::from(task) >= image.tasks() {
         return Err(Status::NoTask(task));
     }
-    Ok(LeastWords::new(image.words(task).len() as u32))
+    Ok(Keeps::new(image.words(task).len() as u32, image.set()))
 }

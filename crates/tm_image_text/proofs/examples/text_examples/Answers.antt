@@ -9,6 +9,10 @@ pub returns-clause-one : goal.returns-clause-one
 unfolding image_text task_line text_line data_line users_of resource_line alarm_line box_line action_line ring_line hex8 digits
 returns-clause-one c = refl
 
+pub returns-clause-product : goal.returns-clause-product
+unfolding image_text task_line text_line data_line users_of resource_line alarm_line box_line action_line ring_line hex8 digits
+returns-clause-product c = refl
+
 pub returns-clause-every : goal.returns-clause-every
 unfolding image_text task_line text_line data_line users_of resource_line alarm_line box_line action_line ring_line hex8 digits
 returns-clause-every c = refl

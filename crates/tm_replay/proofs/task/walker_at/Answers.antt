@@ -36,5 +36,5 @@ returns c =
     c.text.ensures.value c.log.ensures.log f.number
     (ap (λ (t : TaskView). t.standing) c.load.ensures.loaded ∙ ap (λ (b : Body). record { body = b; epoch = c.args.epoch; count = 0 }) f.own)
     refl c.new-3.ensures
-    (subst (λ x. 0 < length x) (sym c.text.ensures.value) c.text.ensures.sound.some_text)
-    (subst (λ x. length x ≤ 16384) (sym c.text.ensures.value) c.text.ensures.sound.short_text) c.load.ensures.task
+    (subst (λ x. 0 < length x.words) (sym c.text.ensures.value) c.text.ensures.sound.some_text)
+    (subst (λ x. length x.words ≤ 16384) (sym c.text.ensures.value) c.text.ensures.sound.short_text) c.load.ensures.task

@@ -4,4 +4,4 @@ use Rattle.tm_rv.specs.Code.{kept}
 use Rattle.tm_rv.proofs.code.add_decoded.Given as goal
 
 abbrev pub invariant-loop-word : goal.invariant-loop-word
-invariant-loop-word l = l.instrs.items ≡ l.fn.instrs.items ++ map (λ word. kept (instr_of word)) (take l.word-index l.words)
+invariant-loop-word l = l.instrs.items ≡ l.fn.instrs.items ++ map (λ word. kept (instr_of word l.fn.set)) (take l.word-index l.words)

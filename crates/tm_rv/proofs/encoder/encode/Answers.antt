@@ -8,6 +8,6 @@ pub returns-clause-decodes : goal.returns-clause-decodes
 returns-clause-decodes c = decodes_from c.args.instr.now _ c.requires (omega arith)
 
 pub returns-clause-only : goal.returns-clause-only
-returns-clause-only c = λ word small h.
-    let again : word_of c.args.instr.now ≡ word = (is_decoded word c.args.instr.now small h).again in
+returns-clause-only c = λ word set small h.
+    let again : word_of c.args.instr.now ≡ word = (is_decoded word set c.args.instr.now small h).again in
     omega arith
