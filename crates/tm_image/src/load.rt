@@ -57,12 +57,7 @@ impl Loaded {
     }
 
     /// A task without text, whose data words are 0.
-    pub(crate) fn new(
-        alloc: Global,
-        entry: u32,
-        set: Set,
-        words: u32,
-    ) -> Result<Self, AllocError>
+    pub(crate) fn new(alloc: Global, entry: u32, set: Set, words: u32) -> Result<Self, AllocError>
         ensures { IfOk result (λ load. load ≡ record { entry = entry; text = []; set = set; words = replicate words 0 }) }
     {
         let words = vec![in alloc; 0; words as usize]?;

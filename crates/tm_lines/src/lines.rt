@@ -132,12 +132,7 @@ fn is_header(name: &[u8], version: &[u8], tokens: &[&[u8]]) -> bool
 }
 
 /// Whether a line is the header; it is skipped where it is not.
-fn is_opening(
-    alloc: Global,
-    name: &[u8],
-    version: &[u8],
-    line: &[u8],
-) -> Result<bool, Reason>
+fn is_opening(alloc: Global, name: &[u8], version: &[u8], line: &[u8]) -> Result<bool, Reason>
     ensures { Answers (λ opened. opened) result (opening (header name.now version.now) line.now) }
 {
     let tokens = tokens_said(alloc, line)?;

@@ -10,8 +10,8 @@ ghost use Rattle.tm_task.specs.Does.{Does, exec_kept};
 ghost use Rattle.tm_task.specs.declared.execute.Executed.TheVariants.{Went};
 
 use crate::Cause;
-use crate::execute::Executed;
 use crate::division::{quotient, quotient_unsigned, remainder, remainder_unsigned};
+use crate::execute::Executed;
 use crate::memory::{data_index, is_in_data, is_in_text, part, splice};
 use crate::multiplication::{high_mixed, high_signed, high_unsigned};
 use crate::registers::Registers;
@@ -132,9 +132,19 @@ pub(crate) fn perform(
         Op::Mulhsu => write(pc, regs, rd, high_mixed(regs.get(rs1), regs.get(rs2))),
         Op::Mulhu => write(pc, regs, rd, high_unsigned(regs.get(rs1), regs.get(rs2))),
         Op::Div => write(pc, regs, rd, quotient(regs.get(rs1), regs.get(rs2))),
-        Op::Divu => write(pc, regs, rd, quotient_unsigned(regs.get(rs1), regs.get(rs2))),
+        Op::Divu => write(
+            pc,
+            regs,
+            rd,
+            quotient_unsigned(regs.get(rs1), regs.get(rs2)),
+        ),
         Op::Rem => write(pc, regs, rd, remainder(regs.get(rs1), regs.get(rs2))),
-        Op::Remu => write(pc, regs, rd, remainder_unsigned(regs.get(rs1), regs.get(rs2))),
+        Op::Remu => write(
+            pc,
+            regs,
+            rd,
+            remainder_unsigned(regs.get(rs1), regs.get(rs2)),
+        ),
         Op::Ebreak if imm == 1 => Executed::Faulted(Cause::Illegal),
         Op::Ebreak => Executed::Faulted(Cause::Break),
     }
