@@ -18,10 +18,11 @@ use tm_kernel::{Action, TaskSpec};
 use tm_marker::Caps;
 use tm_rv::Set;
 
-/// Appends the one text of an image: the header, `tmi 1`, or `tmi 2` where the texts may have RV32M; for each task its line, one line with its whole text
-/// and, where a data word isn't 0, one line with its data words up to the last such word; then the resources,
-/// the alarms, the boxes and the lines that have an action, each rising, and the four capacities. On want of
-/// memory `into` is as before. The text is read as the image, but for the digest, which is that of the text.
+/// Appends the one text of an image: the header, `tmi 1`, or `tmi 2` where the texts may have RV32M; for each
+/// task its line, one line with its whole text and, where a data word isn't 0, one line with its data words
+/// up to the last such word; then the resources, the alarms, the boxes and the lines that have an action,
+/// each rising, and the four capacities. On want of memory `into` is as before. The text is read as the
+/// image, but for the digest, which is that of the text.
 pub fn image_text(image: &Image, into: &mut Vec<u8>) -> Result<(), AllocError>
     ensures ok { OnOk result (into.new.items ≡ into.old.items ++ image_text image.now) }
     ensures err { OnErr result (into.new.items ≡ into.old.items) }

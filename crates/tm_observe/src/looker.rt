@@ -22,8 +22,8 @@ const MOST_LOOKERS: usize = 4;
 /// What the first observer tells the gate; the others tell it the numbers that follow.
 const FIRST_PLACE: u8 = 16;
 
-/// An observer beside a run. Contracts see the observer, the bytes of its last look, and whether a look found too little
-/// memory.
+/// An observer beside a run. Contracts see the observer, the bytes of its last look, and whether a look found
+/// too little memory.
 #[derive(Drop)]
 pub struct Looker {
     observer: Observer,

@@ -5,8 +5,9 @@
 //!
 //! [`decode`] reads a word of a text with a [`Set`] of instructions as an [`Instr`], which names its
 //! operation, an [`Op`], and the fields that the operation's format has. [`encode`] is its inverse: each
-//! instruction whose fields are in range has exactly one word. [`name`] tells how the operation is written. [`operation`] tells the
-//! operation alone, and [`rd`], [`rs1`], [`rs2`] and the immediates take one field out of a word.
+//! instruction whose fields are in range has exactly one word. [`name`] tells how the operation is written.
+//! [`operation`] tells the operation alone, and [`rd`], [`rs1`], [`rs2`] and the immediates take one field
+//! out of a word.
 //!
 //! The table of a set is the list `rows` in `specs/Table.antt`. A word belongs to the row whose mask leaves
 //! the row's bits, and [`no_word_in_two_rows`] says that this is one row at most. The code looks at

@@ -42,8 +42,8 @@ pub enum Command {
     Make {
         number: u32,
     },
-    /// The text of an image, put under a new name, whose task 0 to 15 comes from an executable; the new name may be that
-    /// of the image or of the executable.
+    /// The text of an image, put under a new name, whose task 0 to 15 comes from an executable; the new name
+    /// may be that of the image or of the executable.
     Load {
         image: Name,
         task: u8,
