@@ -9,6 +9,7 @@ use std::test::Fail;
 use tm_image::{Fault, Image, Plan, Reason, read_image, read_plan};
 use tm_kernel::{Action, TaskSpec};
 use tm_marker::{Caps, Slice};
+use tm_rv::Set;
 
 /// The first three lines of an image: a task of one word of text and of data.
 const ONE_TASK: &str = "tmi 1\ntask 0 basic 1 auto 0 1\ntext 0 0000006f\n";
@@ -151,11 +152,14 @@ fn each_line_of_an_image_has_its_reasons(rt: HostRuntime) -> Result<(), Fail> {
 
 #[test]
 fn each_text_that_is_no_image_has_its_reason(rt: HostRuntime) {
-    let cases: [(&str, u32, Reason); 8] = [
+    let cases: [(&str, u32, Reason); 11] = [
         ("", 1, Reason::Missing),
         ("\n# a note\n \t", 4, Reason::Missing),
         ("tmi 01\n", 1, Reason::Form),
-        ("\ntmi 2\n", 2, Reason::Form),
+        ("tmi 02\n", 1, Reason::Form),
+        ("tmi 0\n", 1, Reason::Form),
+        ("\ntmi 3\n", 2, Reason::Form),
+        ("\ntmi 2\n", 3, Reason::Missing),
         ("task 0 basic 1 auto 0 1\n", 1, Reason::Form),
         ("tmi 1\n", 2, Reason::Missing),
         ("tmi 1", 2, Reason::Missing),
@@ -165,6 +169,20 @@ fn each_text_that_is_no_image_has_its_reason(rt: HostRuntime) {
         let fault = image(rt.alloc(), text).err();
         assert_eq!(rt; fault, Some(Fault { line, reason }), "{text}");
     }
+}
+
+#[test]
+fn the_version_tells_the_set_of_instructions(rt: HostRuntime) -> Result<(), Fail> {
+    let alloc = rt.alloc();
+    let lines = "task 0 basic 1 auto 0 1\ntext 0 02b50633\n";
+    for (header, set) in [("tmi 1\n", Set::Base), ("# a note\n\ttmi  2\r\n", Set::Mul)] {
+        let text = with(alloc, header, lines)?;
+        let read = image(alloc, text.as_str()).expect(&rt, "an image");
+        assert_eq!(rt; read.set(), set);
+        assert_eq!(rt; read.text(0).set(), set);
+        assert_eq!(rt; read.text(0).words(), [0x02b5_0633].as_slice());
+    }
+    Ok(())
 }
 
 /// Adds the line of a keyword that has this number, which may stand in an image of one task.

@@ -1,5 +1,7 @@
 //! The table against words that another assembler made, apart from this crate.
 
+use std::alloc::Global;
+use std::process::Abort;
 use std::test::Fail;
 use tm_rv::{Code, Instr, Op, Set, decode, encode, name};
 
@@ -82,7 +84,28 @@ static DECODED: [(u32, Op, [u8; 3], u32); 75] = [
     (0x0000_810f, Op::Fence, [2, 1, 0], 0), // fence (rd 2, rs1 1)
 ];
 
-// Words that are no instruction of RV32I, and what comes nearest.
+// The same for RV32M, which the base set doesn't have.
+static MULTIPLICATIONS: [(u32, Op, [u8; 3], u32); 17] = [
+    (0x0262_8633, Op::Mul, [12, 5, 6], 0), // mul x12, x5, x6
+    (0x03ff_8fb3, Op::Mul, [31, 31, 31], 0), // mul x31, x31, x31
+    (0x0220_8033, Op::Mul, [0, 1, 2], 0), // mul x0, x1, x2
+    (0x0231_10b3, Op::Mulh, [1, 2, 3], 0), // mulh x1, x2, x3
+    (0x0307_9f33, Op::Mulh, [30, 15, 16], 0), // mulh x30, x15, x16
+    (0x0262_a233, Op::Mulhsu, [4, 5, 6], 0), // mulhsu x4, x5, x6
+    (0x020f_a8b3, Op::Mulhsu, [17, 31, 0], 0), // mulhsu x17, x31, x0
+    (0x0294_33b3, Op::Mulhu, [7, 8, 9], 0), // mulhu x7, x8, x9
+    (0x0355_3a33, Op::Mulhu, [20, 10, 21], 0), // mulhu x20, x10, x21
+    (0x02c5_c533, Op::Div, [10, 11, 12], 0), // div x10, x11, x12
+    (0x03f0_40b3, Op::Div, [1, 0, 31], 0), // div x1, x0, x31
+    (0x02f7_56b3, Op::Divu, [13, 14, 15], 0), // divu x13, x14, x15
+    (0x037c_5b33, Op::Divu, [22, 24, 23], 0), // divu x22, x24, x23
+    (0x0328_e833, Op::Rem, [16, 17, 18], 0), // rem x16, x17, x18
+    (0x03e0_e433, Op::Rem, [8, 1, 30], 0), // rem x8, x1, x30
+    (0x035a_79b3, Op::Remu, [19, 20, 21], 0), // remu x19, x20, x21
+    (0x03be_7eb3, Op::Remu, [29, 28, 27], 0), // remu x29, x28, x27
+];
+
+// Words that are an instruction in neither set, and what comes nearest.
 static REFUSED: [u32; 35] = [
     0x0000_0000, // no instruction: all bits 0
     0xffff_ffff, // no instruction: all bits 1
@@ -100,8 +123,8 @@ static REFUSED: [u32; 35] = [
     0x4000_1013, // SLLI with SRAI's funct7
     0x0200_5013, // SRLI by 32
     0x4200_5013, // SRAI by 32
-    0x0200_0033, // OP with funct7 1 (MUL)
-    0x0200_5033, // OP with funct7 1 (DIVU)
+    0x0600_0033, // MUL with funct7 3
+    0x4200_5033, // DIVU with SRA's bit
     0x4000_7033, // AND with SUB's funct7
     0x4000_6033, // OR with SUB's funct7
     0x4000_1033, // SLL with SUB's funct7
@@ -121,24 +144,40 @@ static REFUSED: [u32; 35] = [
     0x1000_202f, // AMO (LR.W)
 ];
 
+/// The word is this instruction in the set, and the instruction has this word and name.
+fn check(
+    rt: &impl Abort,
+    alloc: Global,
+    set: Set,
+    (word, op, [rd, rs1, rs2], imm): (u32, Op, [u8; 3], u32),
+) -> Result<(), Fail> {
+    let wanted = Instr {
+        op,
+        rd,
+        rs1,
+        rs2,
+        imm,
+    };
+    let found = decode(word, set).ok_or("refused")?;
+    assert_eq!(rt; found, wanted, "{word:08x}");
+    assert_eq!(rt; encode(&found), word);
+    let spelled = format!(in alloc; "{op:?}")?;
+    assert!(rt;
+        name(&found).eq_ignore_ascii_case(spelled.as_str()),
+        "{op:?}"
+    );
+    Ok(())
+}
+
 #[test]
 fn words_and_instructions_match(rt: HostRuntime) -> Result<(), Fail> {
-    for &(word, op, [rd, rs1, rs2], imm) in &DECODED {
-        let wanted = Instr {
-            op,
-            rd,
-            rs1,
-            rs2,
-            imm,
-        };
-        let found = decode(word, Set::Mul).ok_or("refused")?;
-        assert_eq!(rt; found, wanted, "{word:08x}");
-        assert_eq!(rt; encode(&found), word);
-        let spelled = format!(in rt.alloc(); "{op:?}")?;
-        assert!(rt;
-            name(&found).eq_ignore_ascii_case(spelled.as_str()),
-            "{op:?}"
-        );
+    for &row in &DECODED {
+        check(&rt, rt.alloc(), Set::Base, row)?;
+        check(&rt, rt.alloc(), Set::Mul, row)?;
+    }
+    for &row in &MULTIPLICATIONS {
+        check(&rt, rt.alloc(), Set::Mul, row)?;
+        assert_eq!(rt; decode(row.0, Set::Base), None, "{:08x}", row.0);
     }
     Ok(())
 }
@@ -147,6 +186,7 @@ fn words_and_instructions_match(rt: HostRuntime) -> Result<(), Fail> {
 fn other_words_are_refused(rt: HostRuntime) {
     for &word in &REFUSED {
         assert_eq!(rt; decode(word, Set::Base), None, "{word:08x}");
+        assert_eq!(rt; decode(word, Set::Mul), None, "{word:08x}");
     }
 }
 

@@ -1,6 +1,7 @@
-//! The dump of the smallest run, and its points.
+//! The dump of the smallest run, and its points; and a run of version 2, recorded and replayed.
 
 use crate::calls::{call, shelf};
+use crate::texts::MULTIPLIED;
 use std::test::Fail;
 use tm_io::MemSink;
 use tm_prog::Status;
@@ -39,5 +40,37 @@ fn the_dump_of_a_run_is_put_and_its_points_are_listed(rt: HostRuntime) -> Result
         Status::Ok
     );
     assert_eq!(rt; sink.bytes(), b"0\n1\n2\n".as_slice());
+    Ok(())
+}
+
+#[test]
+fn a_run_of_version_2_is_recorded_and_replayed(rt: HostRuntime) -> Result<(), Fail> {
+    let alloc = rt.alloc();
+    let (image, plan) = (MULTIPLIED.image.as_bytes(), MULTIPLIED.plan.as_bytes());
+    let mut shelf = shelf(alloc, image, plan, &[])?;
+    shelf.room("d", 1 << 12)?;
+    let mut sink = MemSink::new(alloc, 4096, &[])?;
+    sink.room(1 << 12)?;
+    assert_eq!(rt;
+        call(
+            &rt,
+            alloc,
+            &["record", "i", "p", "d"],
+            &mut shelf,
+            &mut sink
+        )?,
+        Status::Ok
+    );
+    assert_eq!(rt;
+        call(
+            &rt,
+            alloc,
+            &["replay", "i", "d", "--from", "0"],
+            &mut shelf,
+            &mut sink
+        )?,
+        Status::Ok
+    );
+    assert_eq!(rt; sink.bytes(), MULTIPLIED.text.as_bytes());
     Ok(())
 }

@@ -67,7 +67,7 @@ fn texts_are_refused_by_line_and_reason(rt: HostRuntime) -> Result<(), Fail> {
     let alloc = rt.alloc();
     let cases: [(&[u8], &[u8], Status); 9] = [
         (b"", PLAN, image(1, Reason::Missing)),
-        (b"tmi 2\n", PLAN, image(1, Reason::Form)),
+        (b"tmi 3\n", PLAN, image(1, Reason::Form)),
         (
             b"tmi 1\ntask 0 basic 0 auto 0 1\n",
             PLAN,

@@ -8,11 +8,12 @@ use tm_io::MemSink;
 use tm_prog::Status;
 
 /// An image, a plan, and the text of the whole run.
-struct Case {
-    what: &'static str,
-    image: &'static str,
-    plan: &'static str,
-    text: &'static str,
+#[derive(Clone, Copy)]
+pub struct Case {
+    pub what: &'static str,
+    pub image: &'static str,
+    pub plan: &'static str,
+    pub text: &'static str,
 }
 
 const SMALLEST: &str = "tmi 1\ntask 0 basic 1 auto 0 1\ntext 0 00200893 00000073\n";
@@ -26,7 +27,50 @@ text 1 00200893 00000073
 line 1 activate 1
 ";
 
-const CASES: [Case; 20] = [
+/// A task that multiplies and divides, in an image of version 2.
+pub const MULTIPLIED: Case = Case {
+    what: "products and quotients in version 2",
+    image: "\
+tmi 2
+task 0 basic 1 auto 0 1
+text 0 80000337 fff00393 027342b3 02736433 027334b3 02035533 0000006f
+",
+    plan: "tmplan 1\nslice 6 0\n",
+    text: "\
+start 0 -
+task 0 0.0.00000000
+regs x2=10000004
+switch 1 - idle 0
+end 0 on
+task 0 running 0.0.00000018
+regs x2=10000004 x5=80000000 x6=80000000 x7=ffffffff x9=7fffffff x10=ffffffff
+",
+};
+
+const CASES: [Case; 22] = [
+    MULTIPLIED,
+    Case {
+        what: "a quotient is no instruction in version 1",
+        image: "\
+tmi 1
+task 0 basic 1 auto 0 1
+text 0 80000337 fff00393 027342b3 02736433 027334b3 02035533 0000006f
+",
+        plan: "tmplan 1\nslice 6 0\n",
+        text: "\
+start 0 -
+task 0 0.0.00000000
+regs x2=10000004
+switch 1 - idle 0
+switch 2 0 fault -
+at 0.0.00000008
+cause 2
+regs x2=10000004 x6=80000000 x7=ffffffff
+end - fault
+task 0 ready 0.0.00000008
+regs x2=10000004 x6=80000000 x7=ffffffff
+",
+    },
     Case {
         what: "the smallest whole run",
         image: SMALLEST,
