@@ -122,6 +122,8 @@ def seeds():
     found = []
     for image in sorted(glob.glob(f"{top}/tests/cases/*.tmi") + glob.glob(f"{top}/examples/*.tmi")):
         found.append((read(image), read(image.replace(".tmi", ".tmplan"))))
+    for folder in sorted(glob.glob(f"{top}/tests/traces/mul-*")):
+        found.append((read(os.path.join(folder, "I")), read(os.path.join(folder, "P"))))
     cell = os.path.join(top, "examples", "cell", "cell")
     return found + [(read(cell + ".tmi"), read(cell + ".tmplan"))]
 

@@ -204,8 +204,8 @@ def check_faults(folder):
 
 
 def check_whole(folder):
-    """All of an image is put in its one spelling, but for the task; nothing of the task's old text and data stays."""
-    write(os.path.join(folder, "image"), SPELLED.encode())
+    """All of an image of either version is put in its one spelling, but for the task; nothing of the task's old text and
+    data stays."""
     zeros = executable(load(TEXT, memory=5), entry=4)
     for task, file, put in (
         ("1", executable(load(TEXT, END), load(DATA, memory=5)), PUT),
@@ -213,8 +213,11 @@ def check_whole(folder):
         ("01", zeros, PUT.replace("basic 1 auto 0", "basic 1 auto 4").replace("00200893 00000073", "00000000 00000000")),
     ):
         write(os.path.join(folder, "file"), file)
-        check(f"load: task {task}", ["load", "image", task, "file", "new"], 0, b"", "", folder)
-        equal(f"load: task {task}: image", read(os.path.join(folder, "new")).decode(), put)
+        for header in ("tmi 1", "tmi 2"):
+            write(os.path.join(folder, "image"), SPELLED.replace("tmi 1", header).encode())
+            check(f"load: task {task}, {header}", ["load", "image", task, "file", "new"], 0, b"", "", folder)
+            wanted = put.replace("tmi 1", header)
+            equal(f"load: task {task}, {header}: image", read(os.path.join(folder, "new")).decode(), wanted)
 
 
 def check_names(folder):
