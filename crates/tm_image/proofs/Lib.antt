@@ -5,3 +5,4 @@ pub mod Sets
 pub mod Wholes
 pub mod Counts
 pub mod Calm
+pub mod Long

@@ -1,5 +1,5 @@
 -- Each task of an image has the image's set of instructions.
-use Rattle.std.proofs.Common.{◌≡◌, ◌∙◌, ℕ, ◌+◌, ◌*◌, ◌%◌, Bool, true, false, ◌||◌, nat_lt, nat_le, ◌==◌, List, [], ◌∷◌, ◌++◌, All, length, refl, sym, subst, ap, Option, Some, None, Result, Ok, Err, slice_get, set, unwrap_or}
+use Rattle.std.proofs.Common.{◌≡◌, ◌∙◌, ℕ, ◌+◌, false, ◌||◌, nat_lt, ◌==◌, List, [], ◌∷◌, ◌++◌, All, length, refl, sym, subst, Option, Some, None, Ok, slice_get, set, unwrap_or}
 use Rattle.std.specs.Prelude.{is_some}
 use Rattle.std.specs.List.{list_any}
 use Rattle.std.proofs.lemmas.List.Elements.{All-nil, All-push, All-set}
@@ -16,7 +16,6 @@ use Rattle.tm_image.specs.declared.said.AlarmLine.{AlarmLine}
 use Rattle.tm_image.specs.declared.said.BoxLine.{BoxLine}
 use Rattle.tm_image.specs.declared.said.LineLine.{LineLine}
 use Rattle.tm_image.specs.declared.said.RingLine.{RingLine}
-use Rattle.tm_lines.specs.Steps.{◌>>=◌}
 use Rattle.tm_lines.specs.Lines.{lines_on}
 use Rattle.tm_image.specs.Said.{keyword_in, task_in, text_in, data_in, resource_in, alarm_in, box_in, line_in, ring_in}
 use Rattle.tm_image.specs.Load.{Load, more_text, written, new_data, with_text, with_data}

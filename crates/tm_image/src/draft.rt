@@ -411,6 +411,10 @@ impl Format for Reading {
 
     ghost next = { image_line };
 
+    fn most_tokens() -> Option<usize> {
+        None
+    }
+
     fn take(&mut self, alloc: Global, tokens: &[&[u8]]) -> Result<(), Reason> {
         let [keyword, words @ ..] = tokens else {
             return Err(Reason::Form);

@@ -12,6 +12,9 @@ use tm_marker::{Items, LONGEST_SLICE, Slice};
 /// Why a plan was not read.
 pub type PlanFault = Fault;
 
+/// The keyword, the length, the mask and the ports.
+const SLICE_TOKENS: usize = 7;
+
 /// The mask of all lines.
 const ALL_LINES: u32 = 0xffff;
 
@@ -57,6 +60,11 @@ impl Format for Plan {
     ghost use Rattle.tm_image.specs.Plan.{plan_line};
 
     ghost next = { plan_line };
+
+    #[tactic(auto, using(crate::proofs::Long::long_slice))]
+    fn most_tokens() -> Option<usize> {
+        Some(SLICE_TOKENS)
+    }
 
     fn take(&mut self, _alloc: Global, tokens: &[&[u8]]) -> Result<(), Reason> {
         match tokens {

@@ -3,5 +3,6 @@ pub mod Bounds
 pub mod Fronts
 pub mod Steps
 pub mod Keeping
+pub mod Long
 pub mod First
 pub mod Calm

@@ -1,5 +1,5 @@
 -- A text as lines, a line as tokens, and a file read line by line.
-use Rattle.std.specs.Prelude.{ℕ, ◌+◌, ◌-◌, Bool, true, false, ◌&&◌, ◌||◌, not, List, [], ◌∷◌, length, take, filter, find, slice_index, ◌==◌, nat_le, if◌then◌else◌, Option, Some, None, Result, Ok, Err}
+use Rattle.std.specs.Prelude.{ℕ, ◌+◌, ◌-◌, Bool, true, false, ◌&&◌, ◌||◌, not, List, [], ◌∷◌, length, take, filter, find, slice_index, ◌==◌, nat_le, nat_lt, if◌then◌else◌, Option, Some, None, Result, Ok, Err}
 use Rattle.std.specs.List.{slice_split, onto_first, list_all}
 use Rattle.std.specs.Str.{bytes_eq}
 use Rattle.tm_lines.specs.declared.fault.Reason.{Reason}
@@ -57,6 +57,17 @@ tokens_read line = if is_skipped line then [] else tokens line
 abbrev pub said : List ℕ → Result (List (List ℕ)) Reason
 said line =
     if list_all is_plain (without_return line) then Ok (tokens_read (without_return line)) else Err Form
+
+-- the tokens, where they are no more than they may be; and Form where they are more
+abbrev pub within : Option ℕ → List (List ℕ) → Result (List (List ℕ)) Reason
+within None found = Ok found
+within (Some most) found = if nat_lt most (length found) then Err Form else Ok found
+
+-- what a line of at most so many tokens says
+abbrev pub said_within : Option ℕ → List ℕ → Result (List (List ℕ)) Reason
+said_within most line = do
+  found ← said line
+  within most found
 
 -- a header: the name of the kind of file, and its version
 pub record Header : Type 0 where

@@ -4,10 +4,13 @@ ghost use Rattle.std.specs.Prelude.{◌≡◌, ◌<◌, ◌≤◌, ◌+◌, ◌-
 ghost use Rattle.std.specs.List.{list_all};
 ghost use Rattle.std.specs.Str.{bytes_eq};
 ghost use Rattle.tm_lines.specs.Steps.{Answers, Gives};
-ghost use Rattle.tm_lines.specs.Lines.{is_line_end, pieces, without_return, is_plain, is_gap, is_ink, tokens, is_skipped, tokens_read, said, header, is_header, is_opened, opening, from_header, step, lines_on};
+ghost use Rattle.tm_lines.specs.Lines.{is_line_end, pieces, without_return, is_plain, is_gap, is_ink, tokens, is_skipped, tokens_read, said, within, said_within, header, is_header, is_opened, opening, from_header, step, lines_on};
 
 use crate::{Fault, Reason};
 use std::alloc::{AllocError, Global};
+
+/// A header is a name and a version.
+const HEADER_TOKENS: usize = 2;
 
 /// Whether a token is this word.
 pub fn spells(token: &[u8], word: &[u8]) -> bool
@@ -18,11 +21,17 @@ pub fn spells(token: &[u8], word: &[u8]) -> bool
 
 /// A value that a file adds to line by line.
 pub trait Format {
-    ghost use Rattle.std.specs.Prelude.{ℕ, List, Result, map};
+    ghost use Rattle.std.specs.Prelude.{◌≡◌, ℕ, ◌<◌, List, length, Result, Err, map, IfSome};
     ghost use Rattle.tm_lines.specs.declared.fault.Reason.{Reason};
+    ghost use Rattle.tm_lines.specs.declared.fault.Reason.TheVariants.{Form};
     ghost use Rattle.tm_lines.specs.Steps.{Answers};
 
     ghost next: { Self → List (List ℕ) → Result Self Reason };
+
+    /// How many tokens a line has at most, where there is a bound: a line of more is refused by its form, and
+    /// its tokens are counted but not collected.
+    fn most_tokens() -> Option<usize>
+        ensures { IfSome result (λ most. (state : Self) (tokens : List (List ℕ)) → most < length tokens → next state tokens ≡ Err Form) };
 
     /// Does what a line of these tokens says.
     fn take(&mut self, alloc: Global, tokens: &[&[u8]]) -> Result<(), Reason>
@@ -107,9 +116,19 @@ fn tokens_of(alloc: Global, line: &[u8]) -> Result<Vec<&[u8]>, AllocError>
         .collect(alloc)
 }
 
-/// The tokens of a line as it stands in a file; none where the line is skipped.
-fn tokens_said(alloc: Global, line: &[u8]) -> Result<Vec<&[u8]>, Reason>
-    ensures { Answers (λ found. map (λ token. token.now) found.items) result (said line.now) }
+/// How many tokens a line has.
+fn count_tokens(line: &[u8]) -> usize
+    ensures { result ≡ length (tokens line.now) }
+{
+    line.split(|c| is_gap(*c))
+        .filter(|token| !token.is_empty())
+        .count()
+}
+
+/// The tokens of a line as it stands in a file; none where the line is skipped, and Form where there are more of
+/// them than there may be.
+fn tokens_said(alloc: Global, most: Option<usize>, line: &[u8]) -> Result<Vec<&[u8]>, Reason>
+    ensures { Answers (λ found. map (λ token. token.now) found.items) result (said_within most line.now) }
 {
     let line = without_return(line);
     if !is_plain_line(line) {
@@ -118,7 +137,10 @@ fn tokens_said(alloc: Global, line: &[u8]) -> Result<Vec<&[u8]>, Reason>
     if is_skipped(line) {
         return Ok(Vec::new(alloc));
     }
-    Ok(tokens_of(alloc, line)?)
+    match most {
+        Some(most) if count_tokens(line) > most => Err(Reason::Form),
+        _ => Ok(tokens_of(alloc, line)?),
+    }
 }
 
 /// Whether the tokens are those of the header of this name and version.
@@ -132,10 +154,11 @@ fn is_header(name: &[u8], version: &[u8], tokens: &[&[u8]]) -> bool
 }
 
 /// Whether a line is the header; it is skipped where it is not.
+#[tactic(auto, using(crate::proofs::Long::long_opening))]
 fn is_opening(alloc: Global, name: &[u8], version: &[u8], line: &[u8]) -> Result<bool, Reason>
     ensures { Answers (λ opened. opened) result (opening (header name.now version.now) line.now) }
 {
-    let tokens = tokens_said(alloc, line)?;
+    let tokens = tokens_said(alloc, Some(HEADER_TOKENS), line)?;
     if tokens.is_empty() {
         return Ok(false);
     }
@@ -172,10 +195,11 @@ pub fn below_header<'a>(
 }
 
 /// Does what a line says.
+#[tactic(auto, using(crate::proofs::Long::long_line))]
 fn take_line<F: Format>(alloc: Global, format: &mut F, line: &[u8]) -> Result<(), Reason>
     ensures { Answers (λ _. format.new) result (step F.next format.old line.now) }
 {
-    let tokens = tokens_said(alloc, line)?;
+    let tokens = tokens_said(alloc, F::most_tokens(), line)?;
     if tokens.is_empty() {
         return Ok(());
     }

@@ -1,4 +1,5 @@
 pub mod Calm
+pub mod Long
 pub mod Adding
 pub mod Spelled
 pub mod Tapes

@@ -1,5 +1,5 @@
 -- The text of a tape is read as the plan of its slices.
-use Rattle.std.proofs.Common.{◌≡◌, ℕ, zero, suc, ◌+◌, ◌-◌, ◌/◌, ◌%◌, ◌<◌, ◌≤◌, ◌^◌, Bool, true, false, ◌&&◌, ◌||◌, not, cond, List, [], ◌∷◌, ◌++◌, length, take, codes, decimal, flat_map, filter, slice_index, if◌then◌else◌, Result, Ok, Err, All, ltb, eqb, nat_le, refl, ap, ap₂, sym, ◌∙◌, append_assoc, append-nil, arith, tests}
+use Rattle.std.proofs.Common.{◌≡◌, ℕ, suc, ◌+◌, ◌-◌, ◌/◌, ◌%◌, ◌<◌, ◌≤◌, ◌^◌, Bool, true, false, ◌&&◌, ◌||◌, cond, List, [], ◌∷◌, ◌++◌, length, take, codes, decimal, flat_map, filter, slice_index, if◌then◌else◌, Result, Ok, Err, All, ltb, eqb, nat_le, refl, ap, ap₂, sym, ◌∙◌, append_assoc, append-nil, arith, tests}
 use Rattle.std.specs.List.{slice_split, onto_first, list_all}
 use Rattle.std.proofs.lemmas.Fmt.{decimal_nonempty}
 use Rattle.std.proofs.lemmas.List.Folds.{list_all-append}
@@ -9,9 +9,8 @@ use Rattle.tm_lines.specs.declared.fault.Reason.{Reason}
 use Rattle.tm_lines.specs.declared.fault.Reason.TheVariants.{Form}
 use Rattle.tm_lines.specs.declared.fault.Fault.{Fault}
 use Rattle.tm_lines.specs.Steps.{◌>>=◌, on_line, tested}
-use Rattle.tm_lines.specs.Lines.{is_line_end, pieces, without_return, is_plain, is_gap, is_token, tokens, tokens_read, said, go_on, step, lines_on, from_header}
-use Rattle.tm_lines.specs.Numbers.{number_in}
-use Rattle.tm_image.specs.Plan.{new_slice, plan_line, plan_of}
+use Rattle.tm_lines.specs.Lines.{is_line_end, pieces, without_return, is_plain, is_gap, is_token, tokens_read, said, go_on, step, lines_on}
+use Rattle.tm_image.specs.Plan.{plan_line, plan_of}
 use Rattle.tm_spelling.specs.Lines.{digit, hex8, line}
 use Rattle.tm_plant.specs.Tape.{hex4, port_text, slice_line, tape_text, IsTaped}
 use Rattle.tm_plant.proofs.Spelled.{is_decimal, decimal_digits, decimal_read, hex4_read, hex8_read}

@@ -28,6 +28,9 @@ pub const MOST_RAISES: u32 = 1_048_576;
 /// How many turns a device waits for a line at most.
 pub const MOST_TURNS: u32 = 65_536;
 
+/// The keyword, the device and two numbers.
+const ACT_TOKENS: usize = 4;
+
 /// What a device does at a time.
 #[derive(Clone, Copy, Debug, PartialEq, Eq)]
 pub enum Act {
@@ -208,6 +211,11 @@ impl Format for Plant {
     ghost use Rattle.tm_plant.specs.Plant.{plant_line};
 
     ghost next = { plant_line };
+
+    #[tactic(auto, using(crate::proofs::Long::long_plant_line))]
+    fn most_tokens() -> Option<usize> {
+        Some(ACT_TOKENS)
+    }
 
     fn take(&mut self, alloc: Global, tokens: &[&[u8]]) -> Result<(), Reason> {
         let [keyword, words @ ..] = tokens else {
