@@ -1,8 +1,11 @@
 """`tm trace`: the texts of the cases and of the example, and the calls that are refused."""
 import os
+import resource
 import tempfile
 
 from shared import cases, check, equal, examples, make_files, read, run, steps, traces, write
+
+MOST_PLAN, LITTLE_MEMORY = 128 << 20, 320 << 20
 
 
 def check_runs():
@@ -45,6 +48,18 @@ def check_refusals(folder):
         check(what, words, status, b"", err, folder)
 
 
+def check_long_line(folder):
+    """A line as long as a plan may be is refused in little more memory than its file takes."""
+    header, line = b"tmplan 1\n", b"slice 1 0 "
+    write(os.path.join(folder, "line.tmplan"), header + line + b"0 " * ((MOST_PLAN - len(header) - len(line)) // 2))
+    words = ["trace", "good.tmi", "line.tmplan"]
+    check("a line of 128 MiB", words, 5, b"", "tm: plan line 2 form", folder, preexec_fn=in_little_memory)
+
+
+def in_little_memory():
+    resource.setrlimit(resource.RLIMIT_AS, (LITTLE_MEMORY, LITTLE_MEMORY))
+
+
 def check_cell(folder):
     """The image of tests/traces/cell under 20,000 ticks, one a slice of 500 instructions, to its end. Task 1 waits
     once at boot and after each second tick, task 3 ends after each fifth, task 4 at boot and after each seventh:
@@ -69,4 +84,5 @@ def main():
     with tempfile.TemporaryDirectory() as folder:
         make_files(folder)
         check_refusals(folder)
+        check_long_line(folder)
         check_cell(folder)
