@@ -3,8 +3,9 @@
 can, beside the slices of `live` and beside the observers of `watch` too. Each audit must add up and tell what its plant
 raises, and the tape must have what was taken; the sums of all audits are printed.
 
-Usage: storms.py TIMES [CHECKER ..], by hand: each storm so many times, in short under a checker where one is named, as
-by storms.py 1 valgrind --tool=drd --error-exitcode=99."""
+Usage: storms.py TIMES [CHECKER ..], by hand: each storm so many times. Where a checker is named, as by
+storms.py 1 valgrind --tool=drd --error-exitcode=99, the storms are short and those of `live` alone: such a checker takes
+each value that `watch` hands over by an atomic step for a race."""
 import os
 import subprocess
 import sys
@@ -52,7 +53,7 @@ def main():
     times, checker = int(sys.argv[1]), sys.argv[2:]
     sums, count, wrong = [0] * 4, 0, []
     for name, devices in plants(RAISES_CHECKED if checker else RAISES).items():
-        for words in (LIVE, WATCH):
+        for words in (LIVE,) if checker else (LIVE, WATCH):
             for _ in range(times):
                 with tempfile.TemporaryDirectory() as folder:
                     told, found = storm(folder, words, devices, checker)
