@@ -1,6 +1,6 @@
 """Tapes that are read back from dumps: of images whose tasks tell by their markers and control entries when each line
 came. What was taken beside threads is known then, though nothing but dumps was put."""
-from dumps import KINDS, decode, shape_of
+from dumps import KINDS, STATES, decode, shape_of
 
 READ_INPUT = 18
 EPOCH = 1 << 20
@@ -29,7 +29,7 @@ class Clock:
 
     def tape_of(self, dump, length):
         """The slices of a run of slices of this length, as its dump tells them: a word that no task read is 0, and none
-        are told behind a fault."""
+        are told behind a fault. A task that a fault left ready was activated in the last slice."""
         fields = decode(dump, *shape_of(self.text.encode()))
         if fields.control.total != len(fields.control.items):
             raise ValueError("a control entry was dropped")
@@ -44,7 +44,12 @@ class Clock:
                     ports = tuple(next(words) for _ in range(self.ports)) + NO_PORTS[self.ports :]
                 found[place] = mask | 1 << left, ports
                 others += self.lengths[left - 1]
-        end = place + 1 if fields.ended else slices_in(others + self.instructions(*fields.stands[0][:3]), length)
+        if fields.ended:
+            mask, ports = found[place]
+            ready = [1 << who for who, stand in enumerate(fields.stands) if who and STATES[stand[3]] == "ready"]
+            found[place] = mask | sum(ready), ports
+            return [found.get(number, (0, NO_PORTS)) for number in range(place + 1)]
+        end = slices_in(others + self.instructions(*fields.stands[0][:3]), length)
         return [found.get(number, (0, NO_PORTS)) for number in range(end)]
 
 
