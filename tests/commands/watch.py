@@ -56,8 +56,8 @@ def plants():
         "two that wait": ("relay", two_waits, 60, 9, 2),
         "ports in rounds": ("ports", f"device 0\ndevice 1\n{rounds}{waits.replace(' 0 1', ' 1 1') * 40}", 300, 15, 200),
         "every line": ("fifteen", every_line, 50, 30, 40),
-        "a fault": ("fault", "device 0\ndevice 1\n" + waits * 30 + "hold 1 1 50\nraise 1 2 1\n", 200, 11, 60),
-        "a fault in a storm": ("fault", "device 0\ndevice 1\nraise 0 1 131072\nhold 1 1 50\nraise 1 2 1\n", 200, 11, 60),
+        "a fault": ("fault", "device 0\ndevice 1\n" + waits * 30 + "hold 1 1 50\nraise 1 2 1\n", 20000, 11, 60),
+        "a fault in a storm": ("fault", "device 0\ndevice 1\nraise 0 1 131072\nhold 1 1 50\nraise 1 2 1\n", 20000, 11, 60),
     }
 
 
